@@ -1,0 +1,5 @@
+pub mod Accepted
+pub mod Filled
+pub mod Judged
+pub mod Lookups
+pub mod Readings
