@@ -1,4 +1,5 @@
 pub mod Choices
 pub mod Numbers
 pub mod Searches
+pub mod Stretches
 pub mod Verdicts

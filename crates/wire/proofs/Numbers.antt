@@ -110,7 +110,7 @@ number-at a b =
     let e3 = getD-append-add a b 3 0 in
     rw (e0, e1, e2, e3)
 
-bytes-drop : (l : List ℕ) (n : ℕ) → Bytes l → Bytes (drop n l)
+pub bytes-drop : (l : List ℕ) (n : ℕ) → Bytes l → Bytes (drop n l)
 bytes-drop l n b = record { below = λ i. rw getD-drop (b .below (n + i)) }
 
 pub read-bytes : (l : List ℕ) (at : ℕ) → Bytes l → at + 4 ≤ length l → le32 (u32At l at) ≡ take 4 (drop at l)

@@ -1,4 +1,5 @@
 pub mod Choice
 pub mod Number
 pub mod Search
+pub mod Stretch
 pub mod Verdict

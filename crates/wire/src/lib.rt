@@ -4,6 +4,7 @@ ghost use mathlib.Core.Path.{_≡_};
 ghost use Prim.Native.Nat.{_+_, _≤_, _<_};
 ghost use lib.ListN.{length, getD};
 ghost use Rattle.wire.specs.Number.{u16At, u32At, le16, le32, placed};
+ghost use Rattle.wire.specs.Stretch.{copied};
 
 // What checks in a row say: accepted, or refused with a number of document 01's table and a place.
 pub enum Verdict {
@@ -103,5 +104,21 @@ pub fn put_u32(out: &mut [u8], at: usize, n: u32)
             out[at + 2] = (n / 256 / 256 % 256) as u8;
             out[at + 3] = (n / 256 / 256 / 256 % 256) as u8;
         }
+    }
+}
+
+// Copies src over the whole of out. Where they are not equally long, nothing changes.
+pub fn copy(out: &mut [u8], src: &[u8])
+    ensures { λ r. ⌜ now (out .exit) ≡ copied (now (out .entry)) (now (src .entry)) ⌝ }
+{
+    let len = out.len();
+    let n = src.len();
+    if len != n {
+        return;
+    }
+    let mut i = 0;
+    while i < n {
+        out[i] = src[i];
+        i += 1;
     }
 }

@@ -1,0 +1,124 @@
+-- What opening a container says of its PSV0 part, and what stays the same in a widening.
+-- Assumes nothing.
+use Prim.Native.Nat.{ℕ, _+_, _≤_, _<_}
+use mathlib.Core.Path.{_≡_, refl, sym, _∙_, ap}
+use mathlib.Core.Bool.{Bool, true, false, true≢false}
+use mathlib.Core.List.{List, []}
+use native.Mathlib.Omega.{arith}
+use native.Mathlib.Nat.{le-trans}
+use lib.Dec.{leb, ltb}
+use lib.ListN.{length, take, drop, length-take, length-drop}
+use borrow.Author.Tests.{le-leb, leb-true, lt-ltb}
+use Rattle.wire.specs.Number.{u32At}
+use Rattle.wire.specs.Verdict.{_then_, check}
+use Rattle.wire.specs.declared.Verdict.{Verdict}
+use Rattle.wire.specs.declared.Verdict.the-variants.{Accepted, Refused}
+use Rattle.wire.proofs.Searches.{first-agree}
+use Rattle.wire.proofs.Verdicts.{check-then, check-accepted, then-accepted, accepted-then, checked}
+use Rattle.part_table.specs.Lookup.{foundBelow, find}
+use Rattle.part_table.specs.Table.{hasName, countOf, offsetAt, nameAt, sizeAt, dataAt, tableJudged}
+use Rattle.part_table.specs.declared.Found.{Found}
+use Rattle.part_table.specs.declared.Found.the-variants.{At, Nothing}
+use Rattle.part_table.proofs.Accepted.{accepted-told, data-length}
+use Rattle.part_table.proofs.Lookups.{find-told}
+use Rattle.psv0_layout.specs.Judged.{judgedAt, opened}
+use Rattle.psv0_layout.specs.Layout.{editionRead}
+use Rattle.psv0_layout.specs.Shown.{unset, Question, answered}
+use Rattle.psv0_layout.specs.Widened.{Widening}
+use Rattle.container_layout.specs.Container.{dxil, psv0, isThere, sizeFound, dataFound, psvOf, beforePsv, containerJudged, containerAnswered}
+use Rattle.container_layout.specs.Widened.{WiderContainer}
+
+-- ---- the PSV0 part of an accepted table is no longer than a container may be
+data-short : (b : List ℕ) (f : Found) → length (dataFound b f) ≤ length b
+unfolding dataAt
+data-short b (At k) = simp (length-take, length-drop) (omega arith)
+data-short b Nothing = omega arith
+
+pub psv-short : (b : List ℕ) → tableJudged b ≡ Accepted → length (psvOf b) ≤ 16777216
+unfolding psvOf
+psv-short b h = le-trans (data-short b (find b psv0)) (accepted-told b h .header .short)
+
+-- ---- an opening that accepts, taken apart and put together
+pub record Before (k : ℕ) (b : List ℕ) : Type 0 where
+  pub edition : leb k 3 ≡ true
+  pub table : tableJudged b ≡ Accepted
+  pub program : ltb 0 (sizeFound b (find b dxil)) ≡ true
+  pub validation : isThere (find b psv0) ≡ true
+
+pub before-told : (k : ℕ) (b : List ℕ) → beforePsv k b ≡ Accepted → Before k b
+unfolding beforePsv
+before-told k b h =
+    let (c25, o1) = check-then _ _ _ _ h in
+    let (t, o2) = then-accepted _ _ o1 in
+    let (c10, o3) = check-then _ _ _ _ o2 in
+    record { edition = c25; table = t; program = c10; validation = check-accepted _ _ _ o3 }
+
+pub before-is : (k : ℕ) (b : List ℕ) → Before k b → beforePsv k b ≡ Accepted
+unfolding beforePsv
+before-is k b p =
+    accepted-then _ _ (checked _ 25 0 (p .edition))
+    (accepted-then _ _ (p .table) (accepted-then _ _ (checked _ 10 0 (p .program)) (checked _ 11 0 (p .validation))))
+
+pub opened-told : (k : ℕ) (b : List ℕ) → containerJudged k b ≡ Accepted
+    → (beforePsv k b ≡ Accepted) × (judgedAt (editionRead k (psvOf b)) (psvOf b) ≡ Accepted)
+unfolding containerJudged
+opened-told k b h = then-accepted _ _ h
+
+pub opened-is : (k : ℕ) (b : List ℕ) → beforePsv k b ≡ Accepted → judgedAt (editionRead k (psvOf b)) (psvOf b) ≡ Accepted
+    → containerJudged k b ≡ Accepted
+unfolding containerJudged
+opened-is k b p j = accepted-then _ _ p j
+
+-- ---- a container that passes what is checked before is opened as its PSV0 data alone; one that does not shows nothing
+module _ (k : ℕ) (b : List ℕ) where
+  pub opens-alone : beforePsv k b ≡ Accepted → containerJudged k b ≡ opened k (psvOf b)
+  unfolding containerJudged opened _then_ check
+  opens-alone h =
+      let p = before-told k b h in
+      let s = le-leb _ _ (psv-short b (p .table)) in
+      simp (h, p .edition, s)
+
+  pub shows-alone : beforePsv k b ≡ Accepted → (q : Question) → containerAnswered k b q ≡ answered k (psvOf b) q
+  unfolding containerAnswered answered
+  shows-alone h q = rw (opens-alone h)
+
+  pub refuses-before : {n p : ℕ} → beforePsv k b ≡ Refused n p → containerJudged k b ≡ Refused n p
+  unfolding containerJudged _then_
+  refuses-before h = rw h
+
+  pub shows-nothing : {n p : ℕ} → beforePsv k b ≡ Refused n p → (q : Question) → containerAnswered k b q ≡ unset
+  unfolding containerAnswered
+  shows-nothing h q = rw (refuses-before h)
+
+-- ---- what stays the same in a widening
+module _ (k : ℕ) (b b′ : List ℕ) (w : WiderContainer k b b′) where
+  find-same : (x : ℕ) → find b′ x ≡ find b x
+  unfolding find
+  find-same x =
+      let e = first-agree (hasName (nameAt b′) x) (hasName (nameAt b) x) (countOf b) (λ i l. let q = w .names i l in rw q) in
+      rw (w .counts, e)
+
+  -- the DXIL part is there, and as long as it was
+  pub program-same : tableJudged b ≡ Accepted → sizeFound b′ (find b′ dxil) ≡ sizeFound b (find b dxil)
+  unfolding u32At
+  program-same t = rw (find-same dxil) (go (find b dxil) refl)
+    where
+      go : (f : Found) → find b dxil ≡ f → sizeFound b′ f ≡ sizeFound b f
+      go Nothing e = refl
+      go (At i) e =
+          let n = find-told b dxil i e in
+          let l = n .listed in
+          let l′ : i < countOf b′ = rw (w .counts) l in
+          let other : nameAt b i ≡ psv0 → ⊥ = λ q. let z : dxil ≡ psv0 = sym (n .named) ∙ q in omega arith in
+          sym (data-length b′ (w .passes) i l′) ∙ ap length (w .others i l other) ∙ data-length b t i l
+
+  pub validation-same : isThere (find b′ psv0) ≡ isThere (find b psv0)
+  validation-same = rw (find-same psv0)
+
+  pub psv-wider : isThere (find b psv0) ≡ true → Widening k (psvOf b) (psvOf b′)
+  unfolding psvOf
+  psv-wider t = rw (find-same psv0) (go (find b psv0) refl t)
+    where
+      go : (f : Found) → find b psv0 ≡ f → isThere f ≡ true → Widening k (dataFound b f) (dataFound b′ f)
+      go Nothing e t = absurd (true≢false (sym t))
+      go (At i) e t = let n = find-told b psv0 i e in w .psv i (n .listed) (n .named)

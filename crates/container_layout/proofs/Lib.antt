@@ -1,0 +1,3 @@
+pub mod Boxes
+pub mod Containers
+pub mod Demand3

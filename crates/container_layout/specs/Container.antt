@@ -1,0 +1,60 @@
+-- The opening of a whole container, and what it shows.
+use mathlib.Core.Bool.{Bool, true, false}
+use mathlib.Core.List.{List, [], _∷_}
+use Prim.Native.Nat.{ℕ}
+use lib.Dec.{leb, ltb}
+use Rattle.part_table.specs.Lookup.{find, partIf}
+use Rattle.part_table.specs.Table.{sizeAt, dataAt, tableJudged}
+use Rattle.part_table.specs.declared.Found.{Found}
+use Rattle.part_table.specs.declared.Found.the-variants.{At, Nothing}
+use Rattle.part_table.specs.declared.Part.{Part}
+use Rattle.psv0_layout.specs.Judged.{judgedAt}
+use Rattle.psv0_layout.specs.Layout.{editionRead}
+use Rattle.psv0_layout.specs.Shown.{Value, Question, shown, beside}
+use Rattle.wire.specs.Number.{u32At}
+use Rattle.wire.specs.Verdict.{_then_, check}
+use Rattle.wire.specs.declared.Verdict.{Verdict}
+
+-- the names `DXIL` and `PSV0`, as numbers
+abbrev pub dxil : ℕ
+dxil = u32At (68 ∷ 88 ∷ 73 ∷ 76 ∷ []) 0
+
+abbrev pub psv0 : ℕ
+psv0 = u32At (80 ∷ 83 ∷ 86 ∷ 48 ∷ []) 0
+
+abbrev pub isThere : Found → Bool
+isThere (At k) = true
+isThere Nothing = false
+
+-- the size of a part that was looked for, 0 where there is none, and its data
+abbrev pub sizeFound : List ℕ → Found → ℕ
+sizeFound b (At k) = sizeAt b k
+sizeFound b Nothing = 0
+
+abbrev pub dataFound : List ℕ → Found → List ℕ
+dataFound b (At k) = dataAt b k
+dataFound b Nothing = []
+
+-- the PSV0 part's data
+unfoldable pub psvOf : List ℕ → List ℕ
+psvOf b = dataFound b (find b psv0)
+
+-- what is checked before the PSV0 data: 25, then 1 to 9, then 10, "no DXIL part, or one of size 0", and 11, "no PSV0 part"
+unfoldable pub beforePsv : ℕ → List ℕ → Verdict
+beforePsv k b =
+    check (leb k 3) 25 0
+    then tableJudged b
+    then check (ltb 0 (sizeFound b (find b dxil))) 10 0
+    then check (isThere (find b psv0)) 11 0
+
+-- what opening b gives at edition k: these, and then 12 to 24 of the PSV0 data
+unfoldable pub containerJudged : ℕ → List ℕ → Verdict
+containerJudged k b = beforePsv k b then judgedAt (editionRead k (psvOf b)) (psvOf b)
+
+-- what reader k shows of a container: of its PSV0 part; nothing of the file where the opening refuses
+unfoldable pub containerAnswered : ℕ → List ℕ → Question → Value
+containerAnswered k b q = beside (containerJudged k b) (shown k (psvOf b) q)
+
+-- one part by its name's number x: what opening gives, then 26
+unfoldable pub containerPart : ℕ → List ℕ → ℕ → Part
+containerPart k b x = partIf (containerJudged k b) b x

@@ -1,0 +1,2 @@
+pub mod Container
+pub mod Widened

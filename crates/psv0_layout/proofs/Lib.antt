@@ -1,0 +1,9 @@
+pub mod EditionOrder
+pub mod Editions
+pub mod Layouts
+pub mod Positions
+pub mod References
+pub mod Wholes
+pub mod Wider
+pub mod WiderReading
+pub mod Widening

@@ -1,0 +1,74 @@
+-- Fields of the runtime record r, and the masks' sizes, which follow from them.
+use mathlib.Core.Bool.{Bool, true, false, _&&_, _||_}
+use mathlib.Core.List.{List, [], _∷_}
+use Prim.Native.Nat.{ℕ, _+_, _*_, _/_}
+use lib.Dec.{eqb}
+use lib.ListN.{getD}
+use Rattle.wire.specs.Choice.{choose}
+
+-- "Edition 1: 24 stage, 25 UsesViewID, 26 union, 28 to 30 input, output, patch/primitive element counts, 31 input vectors, 32 to 35
+-- output vectors of streams 0 to 3"
+abbrev pub stage : List ℕ → ℕ
+stage r = getD r 24 0
+
+abbrev pub usesViewId : List ℕ → ℕ
+usesViewId r = getD r 25 0
+
+-- "E, the sum of the three element counts"
+abbrev pub elementTotal : List ℕ → ℕ
+elementTotal r = getD r 28 0 + getD r 29 0 + getD r 30 0
+
+abbrev pub inputVectors : List ℕ → ℕ
+inputVectors r = getD r 31 0
+
+abbrev pub outputVectors : List ℕ → ℕ → ℕ
+outputVectors r i = getD r (32 + i) 0
+
+-- "patch/primitive vectors (1 byte) when it is 3, 4 or 13"
+abbrev pub hasPatchVectors : List ℕ → Bool
+hasPatchVectors r = eqb (stage r) 3 || eqb (stage r) 4 || eqb (stage r) 13
+
+-- "p = patch/primitive vectors (0 where unset)"
+abbrev pub patchVectors : List ℕ → ℕ
+patchVectors r = choose (hasPatchVectors r) (getD r 26 0) 0
+
+-- "Thread counts are set only for stages 5, 13, 14"
+abbrev pub hasThreads : List ℕ → Bool
+hasThreads r = eqb (stage r) 5 || eqb (stage r) 13 || eqb (stage r) 14
+
+-- "w(v) = (v + 7) div 8"
+abbrev pub words : ℕ → ℕ
+words v = (v + 7) / 8
+
+-- a number of words where the test is true, else none
+abbrev pub wordsIf : Bool → ℕ → ℕ
+wordsIf t n = choose t n 0
+
+-- masks 0 to 10 in words. "UsesViewID 1: w(v0), w(v1), w(v2), w(v3); then w(p) when the stage is 3 or 13. Then for each stream
+-- w(vi) x u x 4; then w(p) x u x 4 when the stage is 3; then w(v0) x p x 4 when it is 4."
+unfoldable pub maskWords : List ℕ → List ℕ
+maskWords r =
+    let view = eqb (usesViewId r) 1 in
+    let u = inputVectors r in
+    let v = outputVectors r in
+    let p = patchVectors r in
+    wordsIf view (words (v 0))
+    ∷ wordsIf view (words (v 1))
+    ∷ wordsIf view (words (v 2))
+    ∷ wordsIf view (words (v 3))
+    ∷ wordsIf (view && (eqb (stage r) 3 || eqb (stage r) 13)) (words p)
+    ∷ words (v 0) * u * 4
+    ∷ words (v 1) * u * 4
+    ∷ words (v 2) * u * 4
+    ∷ words (v 3) * u * 4
+    ∷ wordsIf (eqb (stage r) 3) (words p * u * 4)
+    ∷ wordsIf (eqb (stage r) 4) (words (v 0) * p * 4)
+    ∷ []
+
+unfoldable pub sum : List ℕ → ℕ
+sum [] = 0
+sum (x ∷ xs) = x + sum xs
+
+-- "Masks in 4-byte words"
+abbrev pub maskBytes : List ℕ → ℕ
+maskBytes r = sum (maskWords r) * 4

@@ -1,0 +1,9 @@
+pub mod Field
+pub mod Handed
+pub mod Judged
+pub mod Laid
+pub mod Layout
+pub mod Position
+pub mod Reference
+pub mod Shown
+pub mod Widened

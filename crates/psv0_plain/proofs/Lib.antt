@@ -1,0 +1,11 @@
+pub mod GivenRecords
+pub mod HandedOut
+pub mod Lengths
+pub mod Relaid
+pub mod RoundTrips
+pub mod Runtime
+pub mod Stretches
+pub mod Writing
+pub mod WrittenJudged
+pub mod WrittenPlain
+pub mod WrittenSections
