@@ -195,7 +195,8 @@ pub fn read(b: &[u8]) -> Table
     }
 }
 
-fn no_part(v: Verdict) -> Part
+// What a refused lookup shows.
+pub fn no_part(v: Verdict) -> Part
     ensures { λ r. ⌜ r ≡ refusedPart v ⌝ }
 {
     Part {

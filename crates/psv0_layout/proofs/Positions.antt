@@ -5,16 +5,16 @@ use mathlib.Core.Path.{_≡_, refl, sym, _∙_, ap}
 use mathlib.Core.Bool.{Bool, true, false, _&&_}
 use mathlib.Core.List.{List, [], _∷_}
 use native.Mathlib.Omega.{arith}
-use native.Mathlib.Nat.{suc-mul, mul-one, zero-mul, add-assoc, add-zero, mul-le-mul-right, le-trans}
+use native.Mathlib.Nat.{suc-mul, mul-one, zero-mul, add-assoc, add-zero, mul-le-mul-right}
 use lib.Dec.{leb, eqb}
 use lib.ListN.{length, getD, take, drop, length-drop}
-use lib.Seq.{take-take, take-nil, drop-nil, drop-drop, getD-take, getD-drop}
+use lib.Seq.{take-take, drop-drop, getD-take, getD-drop}
 use borrow.Author.Tests.{le-leb, lt-leb, leb-true, leb-false}
 use Rattle.constants.specs.Edition.{sizeOf}
 use Rattle.wire.specs.Number.{u16At, u32At}
 use Rattle.wire.specs.Verdict.{_then_, check}
 use Rattle.wire.proofs.Choices.{both}
-use Rattle.wire.proofs.Numbers.{u32-take, u32-drop, u16-drop}
+use Rattle.wire.proofs.Numbers.{u32-take, u32-drop}
 use Rattle.psv0_layout.specs.Field.{elementTotal, maskWords, sum, maskBytes}
 use Rattle.psv0_layout.specs.Judged.{headJudged, bodyFits}
 use Rattle.psv0_layout.specs.Layout.{counted, afterCounted, countedFits, records, afterRecords, recordsFit, rows, runtimeOf, guideOf, resourceCountOf, after1, after2, after3, after4, after5, sections, bodyOf, resourceWidth, seen}
@@ -49,7 +49,7 @@ pub part-part : (d : List ℕ) (p m k w : ℕ) → k + w ≤ m → take w (drop 
 part-part d p m k w h = rw (inner k w m (drop p d) h, drop-drop)
 
 -- ---- a section that stands at a position
-drop-u32 : (d : List ℕ) (at : ℕ) → u32At (drop at d) 0 ≡ u32At d at
+pub drop-u32 : (d : List ℕ) (at : ℕ) → u32At (drop at d) 0 ≡ u32At d at
 drop-u32 d at = u32-drop at d 0 ∙ ap (u32At d) (add-zero at)
 
 -- 4 bytes fit after a position where their end is inside, and so do 4 and then x more; n bytes in all
@@ -92,10 +92,10 @@ unfolding records
 stride-at zero d at h = absurd (omega arith)
 stride-at (suc n) d at h = drop-u32 d at
 
-pub bytes-at : (n : ℕ) (d : List ℕ) (at : ℕ) → 0 < n → records n (drop at d) .bytes ≡ take (n * u32At d at) (drop (at + 4) d)
+pub bytes-at : (n : ℕ) (d : List ℕ) (at : ℕ) → records n (drop at d) .bytes ≡ take (n * u32At d at) (drop (at + 4) d)
 unfolding records
-bytes-at zero d at h = absurd (omega arith)
-bytes-at (suc n) d at h = rw (drop-u32, drop-drop)
+bytes-at zero d at = rw zero-mul
+bytes-at (suc n) d at = rw (drop-u32, drop-drop)
 
 -- the last of four tests may be changed where the first is true
 swap-last : (a a′ x y b b′ : Bool) → a ≡ a′ → (a && b) ≡ b′ → (a && x && y && b) ≡ (a′ && x && y && b′)
@@ -248,7 +248,7 @@ module _ (d : List ℕ) (e i s : ℕ) (es : u32At d (resourcesStart d + 4) ≡ s
   resource-at =
       let some : 0 < u32At d (resourcesStart d) = omega arith in
       let z : resourcesStart d + 4 + 4 ≡ resourcesStart d + 8 = omega arith in
-      rw (resources-at d, records-count, stride-at _ d (resourcesStart d + 4) some, bytes-at _ d (resourcesStart d + 4) some, es, z)
+      rw (resources-at d, records-count, stride-at _ d (resourcesStart d + 4) some, bytes-at _ d (resourcesStart d + 4), es, z)
       (row-at d (resourcesStart d + 8) _ s (resourceWidth e s) i h (width-fits e s f))
 
   pub resource-u32 : (o : ℕ) → o + 4 ≤ resourceWidth e s
@@ -265,7 +265,7 @@ module _ (d : List ℕ) (i s : ℕ) (es : u32At d (elementsStart d) ≡ s) (h : 
   unfolding seen bodyOf
   element-at =
       let some : 0 < elementTotal (guideOf d) = omega arith in
-      rw (elements-at d, records-count, stride-at _ d (elementsStart d) some, bytes-at _ d (elementsStart d) some, es)
+      rw (elements-at d, records-count, stride-at _ d (elementsStart d) some, bytes-at _ d (elementsStart d), es)
       (row-at d (elementsStart d + 4) _ s 16 i h f)
 
   module _ (o : ℕ) where

@@ -1,124 +1,163 @@
--- String and index references: when one is good, and what it refers to by positions.
+-- String and index references, by position in the tables; and the loop that judges the references of the elements.
 -- Assumes nothing.
-use Prim.Native.Nat.{ℕ, zero, suc, _+_, _-_, _*_, _/_, _≤_, _<_}
-use mathlib.Core.Path.{_≡_, refl, sym, _∙_, ap}
-use mathlib.Core.Bool.{Bool, true, false, _&&_, true≢false}
+use Prim.Native.Nat.{ℕ, zero, suc, _+_, _-_, _*_, _≤_, _<_}
+use mathlib.Core.Path.{_≡_, refl, ap}
+use mathlib.Core.Bool.{Bool, true, false, _&&_}
 use mathlib.Core.List.{List, [], _∷_}
-use mathlib.Core.Logic.{⊎-elim}
+use mathlib.Core.Logic.{inl, inr, ⊎-elim}
 use native.Mathlib.Omega.{arith}
-use native.Mathlib.Nat.{eq-or-lt-of-le, sub-self}
 use native.Mathlib.Numerals.{add-one}
-use native.Mathlib.Decide.{le-ind}
-use lib.Dec.{ltb, leb}
-use lib.ListN.{length, getD, take, drop, length-drop, drop-of-length-le}
-use lib.Seq.{drop-cons, drop-nil, getD-drop}
-use borrow.Author.Tests.{lt-ltb, le-ltb, ltb-true, ltb-false, le-leb, lt-leb, leb-true, leb-false}
+use native.Mathlib.Nat.{eq-or-lt-of-le}
+use lib.Dec.{leb, ltb}
+use lib.ListN.{length, getD, take, drop, length-drop}
+use lib.Seq.{getD-drop}
+use borrow.Author.Tests.{lt-ltb, le-ltb, le-leb, lt-leb, leb-true, leb-false, ltb-true, ltb-false}
 use Rattle.wire.specs.Number.{u32At}
-use Rattle.wire.proofs.Choices.{both}
-use Rattle.psv0_layout.specs.Reference.{hasZero, untilZero, stringGood, stringAt, indexTotal, indexAt, indexGood}
+use Rattle.wire.specs.Verdict.{_then_, check, each}
+use Rattle.wire.specs.declared.Verdict.the-variants.{Accepted, Refused}
+use Rattle.wire.proofs.Verdicts.{each-stop, each-next}
+use Rattle.psv0_layout.specs.Judged.{elementJudged, elementsJudged}
+use Rattle.psv0_layout.specs.Layout.{Body}
+use Rattle.psv0_layout.specs.Position.{NoZero, UpToLastZero}
+use Rattle.psv0_layout.specs.Reference.{hasZero, untilZero, stringGood, stringAt, indexTotal, indexAt, indexGood, arrayAt}
+use Rattle.psv0_layout.proofs.Positions.{part-u32, part-part}
 
--- ---- a zero at a position or later
-module _ (t : List ℕ) (i : ℕ) where
-  pub zero-here : i < length t → getD t i 0 ≡ 0 → hasZero (drop i t) ≡ true
-  unfolding hasZero
-  zero-here h e = rw (drop-cons t i 0 h, e)
-
-  not-zero : (x : ℕ) (l : List ℕ) → (x ≡ 0 → ⊥) → hasZero (x ∷ l) ≡ hasZero l
-  unfolding hasZero
-  not-zero zero l h = absurd (h refl)
-  not-zero (suc x) l h = refl
-
-  pub zero-later : i < length t → (getD t i 0 ≡ 0 → ⊥) → hasZero (drop i t) ≡ hasZero (drop (suc i) t)
-  zero-later h e = rw (drop-cons t i 0 h) (not-zero _ _ e)
-
-  pub zero-none : length t ≤ i → hasZero (drop i t) ≡ false
-  unfolding hasZero
-  zero-none h = rw (drop-of-length-le t h)
-
--- from a position on there are no more zeros than from one before it
-back : (t : List ℕ) (i : ℕ) → hasZero (drop (suc i) t) ≡ true → hasZero (drop i t) ≡ true
+-- ---- zero bytes in a list
+zero-in : (l : List ℕ) (i : ℕ) → i < length l → getD l i 0 ≡ 0 → hasZero l ≡ true
 unfolding hasZero
-back [] i h = absurd (true≢false (sym h))
-back (zero ∷ t) zero h = refl
-back (suc x ∷ t) zero h = h
-back (x ∷ t) (suc i) h = back t i h
+zero-in [] i h e = absurd (omega arith)
+zero-in (zero ∷ l) i h e = refl
+zero-in (suc x ∷ l) zero h e = absurd (omega arith)
+zero-in (suc x ∷ l) (suc i) h e = zero-in l i (omega arith) e
 
-module _ (t : List ℕ) (i m : ℕ) (h : i ≤ m) where
-  pub zero-before : hasZero (drop m t) ≡ true → hasZero (drop i t) ≡ true
-  zero-before =
-      le-ind (λ (k : ℕ). hasZero (drop k t) ≡ true → hasZero (drop i t) ≡ true) (λ e. e) (λ k l f e. f (back t k e)) m h
+zero-out : (l : List ℕ) → NoZero l 0 (length l) → hasZero l ≡ false
+unfolding hasZero
+zero-out [] h = refl
+zero-out (zero ∷ l) h = absurd (h 0 (omega arith) (omega arith) refl)
+zero-out (suc x ∷ l) h = zero-out l (λ i a b e. h (suc i) (omega arith) (omega arith) e)
 
-  pub no-zero-after : hasZero (drop i t) ≡ false → hasZero (drop m t) ≡ false
-  no-zero-after e = go (hasZero (drop m t)) refl
-    where
-      go : (b : Bool) → hasZero (drop m t) ≡ b → hasZero (drop m t) ≡ false
-      go true q = absurd (true≢false (sym (zero-before q) ∙ e))
-      go false q = q
+-- the bytes before the first zero, or all of them
+until-first : (l : List ℕ) (n : ℕ) → n ≤ length l → (n < length l → getD l n 0 ≡ 0) → NoZero l 0 n → untilZero l ≡ take n l
+unfolding untilZero
+until-first [] zero h z f = refl
+until-first [] (suc n) h z f = absurd (omega arith)
+until-first (zero ∷ l) zero h z f = refl
+until-first (suc x ∷ l) zero h z f = absurd (let e : suc x ≡ 0 = z (omega arith) in omega arith)
+until-first (zero ∷ l) (suc n) h z f = absurd (f 0 (omega arith) (omega arith) refl)
+until-first (suc x ∷ l) (suc n) h z f =
+    ap (λ (r : List ℕ). suc x ∷ r)
+    (until-first l n (omega arith) (λ a. z (omega arith)) (λ i a b e. f (suc i) (omega arith) (omega arith) e))
+
+-- ---- zero bytes of t from a position on
+zero-from : (t : List ℕ) (o j : ℕ) → o ≤ j → j < length t → getD t j 0 ≡ 0 → hasZero (drop o t) ≡ true
+zero-from t o j h l e =
+    let z : o + (j - o) ≡ j = omega arith in
+    zero-in (drop o t) (j - o) (simp length-drop (omega arith)) (rw (getD-drop, z) e)
+
+no-zero-from : (t : List ℕ) (o : ℕ) → NoZero t o (length t) → hasZero (drop o t) ≡ false
+no-zero-from t o f =
+    zero-out (drop o t) (λ i a b e. f (o + i) (omega arith) (omega (arith, simp length-drop at b)) (rw getD-drop at e))
+
+-- what a search knows: nothing yet, one more byte at the end, one more byte in front
+module _ (t : List ℕ) where
+  pub noZero-begin : (i : ℕ) → NoZero t i i
+  noZero-begin i j a b e = absurd (omega arith)
+
+  pub noZero-on : (i n : ℕ) → NoZero t i n → (getD t n 0 ≡ 0 → ⊥) → NoZero t i (n + 1)
+  noZero-on i n f g j a b e =
+      ⊎-elim (λ q. g (rw q at e)) (λ l. f j a l e) (eq-or-lt-of-le (let h : j ≤ n = omega arith in h))
+
+  pub noZero-back : (i n : ℕ) → NoZero t (i + 1) n → (getD t i 0 ≡ 0 → ⊥) → NoZero t i n
+  noZero-back i n f g j a b e =
+      ⊎-elim (λ q. g (rw (← q) at e)) (λ l. f j (omega arith) b e) (eq-or-lt-of-le a)
+
+  -- a search from the end that comes to the front, and one that stops
+  pub lastZero-none : NoZero t 0 (length t) → UpToLastZero t 0
+  lastZero-none f = record { inside = omega arith; ends = inl refl; none = f }
+
+  pub lastZero-found : (i : ℕ) → i < length t → getD t i 0 ≡ 0 → NoZero t (i + 1) (length t) → UpToLastZero t (i + 1)
+  lastZero-found i h e f =
+      let z : i + 1 - 1 ≡ i = omega arith in
+      record { inside = omega arith; ends = inr (rw z e); none = f }
 
 -- ---- string references
-module _ (t : List ℕ) (o : ℕ) where
-  pub string-good : stringGood t o ≡ true → (o < length t) × (hasZero (drop o t) ≡ true)
-  unfolding stringGood
-  string-good e =
-      let (a, b) = both (ltb o (length t)) _ e in
-      (ltb-true o (length t) a, b)
+-- the last zero byte decides all of them
+pub string-good : (t : List ℕ) (m o : ℕ) → UpToLastZero t m → stringGood t o ≡ ltb o m
+unfolding stringGood
+string-good t m o u = go (ltb o m) refl
+  where
+    neither : (s : Bool) → (s && false) ≡ false
+    neither true = refl
+    neither false = refl
 
-  without-zero : hasZero (drop o t) ≡ false → stringGood t o ≡ false
-  unfolding stringGood
-  without-zero e = rw e (go (ltb o (length t)))
-    where
-      go : (b : Bool) → (b && false) ≡ false
-      go true = refl
-      go false = refl
+    go : (b : Bool) → ltb o m ≡ b → (ltb o (length t) && hasZero (drop o t)) ≡ b
+    go true p =
+        let l : o < m = ltb-true o m p in
+        let i : o < length t = omega (arith, u .inside) in
+        let z : hasZero (drop o t) ≡ true =
+        ⊎-elim (λ n. absurd (omega arith)) (zero-from t o (m - 1) (omega arith) (omega (arith, u .inside))) (u .ends) in
+        rw (lt-ltb o (length t) i, z)
+    go false p =
+        let l : m ≤ o = ltb-false o m p in
+        let z : hasZero (drop o t) ≡ false = no-zero-from t o (λ j a. u .none j (omega arith)) in
+        rw z (neither (ltb o (length t)))
 
-  with-zero : o < length t → hasZero (drop o t) ≡ true → stringGood t o ≡ true
-  unfolding stringGood
-  with-zero h e = simp (lt-ltb _ _ h, e)
-
-  -- a reference is good exactly where it lies before the end of the last string, one after the last zero
-  pub string-end : (m : ℕ) → 0 < m → m ≤ length t → getD t (m - 1) 0 ≡ 0 → hasZero (drop m t) ≡ false → stringGood t o ≡ ltb o m
-  string-end m p h e z = go (ltb o m) refl
-    where
-      go : (b : Bool) → ltb o m ≡ b → stringGood t o ≡ b
-      go true q =
-          let l = ltb-true o m q in
-          let last : m - 1 < length t = omega arith in
-          with-zero (omega arith) (zero-before t o (m - 1) (omega arith) (zero-here t (m - 1) last e))
-      go false q = without-zero (no-zero-after t m o (ltb-false o m q) z)
-
-  pub no-string : hasZero (drop 0 t) ≡ false → stringGood t o ≡ ltb o 0
-  no-string z = without-zero (no-zero-after t 0 o (omega arith) z) ∙ sym (le-ltb o 0 (omega arith))
-
--- the bytes before the first zero, at n
-until : (l : List ℕ) (n : ℕ) → n < length l → getD l n 0 ≡ 0 → ((k : ℕ) → k < n → getD l k 0 ≡ 0 → ⊥) → untilZero l ≡ take n l
-unfolding untilZero
-until [] n h e f = absurd (omega arith)
-until (zero ∷ l) zero h e f = refl
-until (suc x ∷ l) zero h e f = absurd (omega (arith, e))
-until (zero ∷ l) (suc n) h e f = absurd (f 0 (omega arith) refl)
-until (suc x ∷ l) (suc n) h e f = ap (_∷_ (suc x)) (until l n (omega arith) e (λ k i. f (suc k) (omega arith)))
-
--- "the string ends before the first such zero": the string from o to the first zero at o or later, at e
-pub string-to : (t : List ℕ) (o e : ℕ) → o ≤ e → e < length t → getD t e 0 ≡ 0 → ((k : ℕ) → o ≤ k → k < e → getD t k 0 ≡ 0 → ⊥)
+-- the string goes up to the first zero byte, or to the end where there is none
+pub string-is : (t : List ℕ) (o e : ℕ) → o ≤ e → e ≤ length t → (e < length t → getD t e 0 ≡ 0) → NoZero t o e
     → stringAt t o ≡ take (e - o) (drop o t)
 unfolding stringAt
-string-to t o e h l z f =
-    let p : o + (e - o) ≡ e = omega arith in
-    until (drop o t) (e - o) (simp length-drop (omega arith)) (rw (getD-drop, p) z)
-    (λ k i g. f (o + k) (omega arith) (omega arith) (rw getD-drop at g))
+string-is t o e h l z f =
+    let s : o + (e - o) ≡ e = omega arith in
+    until-first (drop o t) (e - o) (simp length-drop (omega arith))
+    (λ a. rw (getD-drop, s) (z (omega (arith, simp length-drop at a))))
+    (λ i a b q. f (o + i) (omega arith) (omega arith) (rw getD-drop at q))
 
 -- ---- index references
 module _ (x : List ℕ) (i : ℕ) where
-  pub index-good : indexGood x i ≡ true → (i < indexTotal x) × (i + 1 + indexAt x i ≤ indexTotal x)
+  pub index-out : indexTotal x ≤ i → indexGood x i ≡ false
   unfolding indexGood
-  index-good e =
-      let (a, b) = both (ltb i (indexTotal x)) _ e in
-      (ltb-true i _ a, leb-true _ _ b)
+  index-out h = simp (le-ltb _ _ h)
 
-  pub index-outside : indexTotal x ≤ i → indexGood x i ≡ false
+  -- by a test that does not add to the number in the file
+  pub index-in : i < indexTotal x → indexGood x i ≡ leb (indexAt x i) (indexTotal x - i - 1)
   unfolding indexGood
-  index-outside h = simp (le-ltb _ _ h)
+  index-in h = rw (lt-ltb _ _ h) (go (indexAt x i) (leb (indexAt x i) (indexTotal x - i - 1)) refl)
+    where
+      go : (c : ℕ) (b : Bool) → leb c (indexTotal x - i - 1) ≡ b → leb (i + 1 + c) (indexTotal x) ≡ b
+      go c true q = le-leb (i + 1 + c) (indexTotal x) (omega (arith, leb-true c (indexTotal x - i - 1) q))
+      go c false q = lt-leb (i + 1 + c) (indexTotal x) (omega (arith, leb-false c (indexTotal x - i - 1) q))
 
-  pub index-inside : i < indexTotal x → indexGood x i ≡ leb (i + 1 + indexAt x i) (indexTotal x)
-  unfolding indexGood
-  index-inside h = simp (lt-ltb _ _ h)
+-- the index table is n numbers from position p on
+module _ (d : List ℕ) (p n i : ℕ) (h : i < n) where
+  pub index-at : indexAt (take (n * 4) (drop p d)) i ≡ u32At d (p + i * 4)
+  index-at = part-u32 d p (n * 4) (i * 4) (omega arith)
+
+  pub array-at : i + 1 + u32At d (p + i * 4) ≤ n
+      → arrayAt (take (n * 4) (drop p d)) i ≡ take (u32At d (p + i * 4) * 4) (drop (p + (i + 1) * 4) d)
+  unfolding arrayAt
+  array-at f = rw index-at (part-part d p (n * 4) ((i + 1) * 4) (u32At d (p + i * 4) * 4) (omega arith))
+
+-- ---- the elements, one after the other: element i, whose references are a and c
+module _ (b : Body) (i a c : ℕ)
+    (so-far : each (elementJudged (b .strings) (b .indices) (b .elements)) i ≡ Accepted)
+    (ea : u32At (getD (b .elements) i []) 0 ≡ a) (ec : u32At (getD (b .elements) i []) 4 ≡ c) where
+  stop : (n : ℕ) → i < length (b .elements) → elementJudged (b .strings) (b .indices) (b .elements) i ≡ Refused n i
+      → elementsJudged b ≡ Refused n i
+  unfolding elementsJudged
+  stop n h q = each-stop _ i _ n i h so-far q
+
+  pub stop-22 : i < length (b .elements) → stringGood (b .strings) a ≡ false → elementsJudged b ≡ Refused 22 i
+  stop-22 h q = stop 22 h (unfold elementJudged check _then_ in simp (ea, q))
+
+  pub stop-23 : i < length (b .elements) → stringGood (b .strings) a ≡ true → indexGood (b .indices) c ≡ false
+      → elementsJudged b ≡ Refused 23 i
+  stop-23 h q r = stop 23 h (unfold elementJudged check _then_ in simp (ea, q, ec, r))
+
+  pub go-on : stringGood (b .strings) a ≡ true → indexGood (b .indices) c ≡ true
+      → each (elementJudged (b .strings) (b .indices) (b .elements)) (i + 1) ≡ Accepted
+  go-on q r = rw (add-one i) (each-next _ i so-far (unfold elementJudged check _then_ in simp (ea, q, ec, r)))
+
+pub judged-all : (b : Body) (i : ℕ) → length (b .elements) ≡ i
+    → each (elementJudged (b .strings) (b .indices) (b .elements)) i ≡ Accepted → elementsJudged b ≡ Accepted
+unfolding elementsJudged
+judged-all b i e f = rw e f

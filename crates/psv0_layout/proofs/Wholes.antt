@@ -12,7 +12,6 @@ use lib.Seq.{length-take-le}
 use borrow.Author.Tests.{leb-true, eqb-true}
 use Rattle.wire.specs.Choice.{choose}
 use Rattle.wire.specs.Number.{u32At}
-use Rattle.wire.specs.Verdict.{_then_, check}
 use Rattle.wire.specs.declared.Verdict.the-variants.{Accepted}
 use Rattle.wire.proofs.Choices.{both}
 use Rattle.wire.proofs.Verdicts.{check-accepted, check-then}

@@ -43,12 +43,3 @@ pub record UpToLastZero (t : List ℕ) (m : ℕ) : Type 0 where
   pub inside : m ≤ length t
   pub ends : (m ≡ 0) ⊎ (getD t (m - 1) 0 ≡ 0)
   pub none : NoZero t m (length t)
-
--- of n records that start, with their size, at a position: the size, and the position of the first
-unfoldable pub strideAt : ℕ → List ℕ → ℕ → ℕ
-strideAt zero d at = 0
-strideAt (suc n) d at = u32At d at
-
-unfoldable pub firstRecord : ℕ → ℕ → ℕ
-firstRecord zero at = at
-firstRecord (suc n) at = at + 4

@@ -1,0 +1,251 @@
+-- A query on a container is the query on its PSV0 data, or the refusal of what is checked before: one law for every query.
+-- Assumes nothing.
+use Prim.Native.Nat.{ℕ, _+_, _-_, _≤_, _<_}
+use mathlib.Core.Path.{_≡_, refl, sym, _∙_, ap}
+use mathlib.Core.Bool.{true, false, true≢false}
+use mathlib.Core.List.{List, []}
+use native.Mathlib.Omega.{arith}
+use lib.ListN.{length, take, drop, length-drop}
+use lib.Seq.{length-take-le}
+use borrow.Author.Tests.{lt-leb}
+use Rattle.constants.specs.Edition.{fileEdition}
+use Rattle.wire.specs.Number.{u32At}
+use Rattle.wire.specs.Verdict.{_then_, check}
+use Rattle.wire.specs.declared.Verdict.{Verdict}
+use Rattle.wire.specs.declared.Verdict.the-variants.{Accepted, Refused}
+use Rattle.part_table.specs.Lookup.{find, refusedPart, partIn, partAt, partIf, partOf}
+use Rattle.part_table.specs.Table.{countOf, offsetAt, sizeAt, dataAt, tableJudged, tableOf}
+use Rattle.part_table.specs.declared.Part.{Part}
+use Rattle.part_table.specs.declared.Table.{Table}
+use Rattle.part_table.specs.declared.Found.{Found}
+use Rattle.part_table.specs.declared.Found.the-variants.{At, Nothing}
+use Rattle.part_table.proofs.Accepted.{accepted-told, part-inside}
+use Rattle.part_table.proofs.Lookups.{find-told, part-in-file}
+use Rattle.psv0.specs.Answers.{numberBeside, bytesBeside, bytesOf, openingOf, infoAnswerOf, resourceAnswerOf, elementAnswerOf, lengthsAnswerOf, refusedInfo, refusedResource, refusedElement, refusedLengths, refusedSpan, SpanShows}
+use Rattle.psv0.specs.declared.Opening.{Opening}
+use Rattle.psv0.specs.declared.Span.{Span}
+use Rattle.psv0.proofs.Spans.{refused-shows}
+use Rattle.psv0_layout.specs.Handed as handed
+use Rattle.psv0_layout.specs.Judged.{opened}
+use Rattle.psv0_layout.specs.Layout.{editionRead}
+use Rattle.psv0_layout.specs.Shown.{Value, unset, Question, queried, answered}
+use Rattle.psv0_layout.proofs.Positions.{part-part}
+use Rattle.container_layout.specs.Container.{psv0, isThere, sizeFound, dataFound, psvOf, beforePsv, containerJudged, containerAnswered, containerPart}
+use Rattle.container_layout.proofs.Containers.{before-told, opened-told, opens-alone, shows-alone, refuses-before, shows-nothing}
+use Rattle.container.specs.Opened.{startFound, psvPartOf, refusedOpening, openingIf, movedSpan, partBeside, containerOpeningOf, partDataOf}
+use Rattle.container.specs.declared.PsvPart.{PsvPart}
+
+pub end-less : (s l : ℕ) → s + l - s ≡ l
+end-less s l = omega arith
+
+-- where the data of a part that is there lie
+found-inside : (k : ℕ) (b : List ℕ) → beforePsv k b ≡ Accepted → (f : Found) → find b psv0 ≡ f → startFound b f + sizeFound b f ≤ length b
+found-inside k b h (At i) e =
+    part-inside b (before-told k b h .table) i (find-told b psv0 i e .listed)
+found-inside k b h Nothing e = omega arith
+
+found-data : (b : List ℕ) (f : Found) → isThere f ≡ true → take (sizeFound b f) (drop (startFound b f) b) ≡ dataFound b f
+unfolding dataAt
+found-data b (At i) t = refl
+found-data b Nothing t = absurd (true≢false (sym t))
+
+module _ (k : ℕ) (b : List ℕ) {p : PsvPart} (hp : p ≡ psvPartOf k b) where
+  pub before-is : {v : Verdict} → p .verdict ≡ v → beforePsv k b ≡ v
+  unfolding psvPartOf
+  before-is h = rw hp at h
+
+  module _ (a : p .verdict ≡ Accepted) where
+    found : p ≡ record { verdict = Accepted; parts = countOf b; start = startFound b (find b psv0); end = startFound b (find b psv0) + sizeFound b (find b psv0) }
+    unfolding psvPartOf
+    found = let e = before-is a in hp ∙ rw e
+
+    -- the part's data as a part of the container
+    pub order : p .start ≤ p .end
+    order = rw found (omega arith)
+
+    pub inside : p .end ≤ length b
+    inside = rw found (found-inside k b (before-is a) (find b psv0) refl)
+
+    pub count-is : p .parts ≡ countOf b
+    count-is = ap (λ (q : PsvPart). q .parts) found
+
+    pub data-is : take (p .end - p .start) (drop (p .start) b) ≡ psvOf b
+    unfolding psvOf
+    data-is =
+        let s = startFound b (find b psv0) in
+        let z : s + sizeFound b (find b psv0) - s ≡ sizeFound b (find b psv0) = omega arith in
+        rw found (rw z (found-data b (find b psv0) (before-told k b (before-is a) .validation)))
+
+    -- what a query answers of the PSV0 data alone it answers of the container
+    pub alone : {A : Type 0} (F : Verdict → (Question → Value) → A) {d : List ℕ} → d ≡ psvOf b
+        → F (opened k d) (answered k d) ≡ F (containerJudged k b) (containerAnswered k b)
+    alone F e = rw e (λ i. F (sym (opens-alone k b (before-is a)) i) (λ q. sym (shows-alone k b (before-is a) q) i))
+
+  -- a refusal before it shows nothing
+  module _ {n q : ℕ} (h : p .verdict ≡ Refused n q) where
+    nothing : {A : Type 0} (F : Verdict → (Question → Value) → A) → F (Refused n q) (λ x. unset) ≡ F (containerJudged k b) (containerAnswered k b)
+    nothing F = λ i. F (sym (refuses-before k b (before-is h)) i) (λ x. sym (shows-nothing k b (before-is h) x) i)
+
+    pub no-info : refusedInfo n q ≡ infoAnswerOf (containerJudged k b) (containerAnswered k b)
+    unfolding infoAnswerOf
+    no-info = nothing infoAnswerOf
+
+    pub no-resource : (i : ℕ) → refusedResource n q ≡ resourceAnswerOf (containerJudged k b) (containerAnswered k b) i
+    unfolding resourceAnswerOf queried _then_
+    no-resource i = nothing (λ o a. resourceAnswerOf o a i)
+
+    pub no-element : (i : ℕ) → refusedElement n q ≡ elementAnswerOf (containerJudged k b) (containerAnswered k b) i
+    unfolding elementAnswerOf queried _then_
+    no-element i = nothing (λ o a. elementAnswerOf o a i)
+
+    pub no-lengths : refusedLengths n q ≡ lengthsAnswerOf (containerJudged k b) (containerAnswered k b)
+    unfolding lengthsAnswerOf
+    no-lengths = nothing lengthsAnswerOf
+
+    pub no-opening : refusedOpening n q ≡ containerOpeningOf k b
+    unfolding containerOpeningOf
+    no-opening = let e = refuses-before k b (before-is h) in rw e
+
+    pub no-view : (x : Question) {s : Span} → s ≡ refusedSpan n q
+        → SpanShows b (queried (containerJudged k b) (containerAnswered k b x)) (bytesOf (containerAnswered k b x)) s
+    unfolding queried _then_
+    no-view x e = rw (refuses-before k b (before-is h), shows-nothing k b (before-is h) x, e) (refused-shows b n q)
+
+    pub no-section : (l : List ℕ) {s : Span} → s ≡ refusedSpan n q
+        → SpanShows b (containerJudged k b) (bytesBeside (containerJudged k b) l) s
+    no-section l e = rw (refuses-before k b (before-is h), e) (refused-shows b n q)
+
+    pub no-part : (x : ℕ) → refusedPart (Refused n q) ≡ containerPart k b x
+    unfolding containerPart
+    no-part x = let e = refuses-before k b (before-is h) in rw e
+
+-- ---- an opening
+beside-if : (v : Verdict) (parts f e : ℕ) → openingIf v parts (numberBeside v f) (numberBeside v e) ≡ openingIf v parts f e
+beside-if Accepted parts f e = refl
+beside-if (Refused n q) parts f e = refl
+
+pub opening-is : (k : ℕ) (b : List ℕ) {p : PsvPart} → p ≡ psvPartOf k b → p .verdict ≡ Accepted
+    → {d : List ℕ} → d ≡ psvOf b → {o : Opening} → o ≡ openingOf (opened k d) (fileEdition (u32At d 0)) (editionRead k d)
+    → openingIf (o .verdict) (p .parts) (o .«file_edition») (o .«edition_read») ≡ containerOpeningOf k b
+unfolding containerOpeningOf
+opening-is k b {p} hp a {d} e {o} ho =
+    let n = count-is k b hp a in
+    let v : opened k (psvOf b) ≡ containerJudged k b = sym (opens-alone k b (before-is k b hp a)) in
+    rw (ho, e, n, v) (beside-if (containerJudged k b) (countOf b) _ _)
+
+-- ---- a stretch of the PSV0 data is one of the container
+module _ (k : ℕ) (b : List ℕ) {p : PsvPart} (hp : p ≡ psvPartOf k b) (a : p .verdict ≡ Accepted) {d : List ℕ}
+    (hd : d ≡ take (p .end - p .start) (drop (p .start) b)) where
+  data-length : length d ≡ p .end - p .start
+  data-length =
+      rw hd (length-take-le (p .end - p .start) (drop (p .start) b) (simp length-drop (omega (arith, order k b hp a, inside k b hp a))))
+
+  pub start-short : {v : Verdict} {l : List ℕ} {s : Span} → SpanShows d v l s → p .start + s .start ≤ 16777216
+  start-short h =
+      let z = before-told k b (before-is k b hp a) .table in
+      omega (arith, h .inside, data-length, order k b hp a, inside k b hp a, accepted-told b z .header .short)
+
+  accepted-shows : {l : List ℕ} {s : Span} → SpanShows d Accepted l s
+      → SpanShows b Accepted l (record { verdict = Accepted; start = p .start + s .start; len = s .len })
+  accepted-shows {l} {s} h =
+      let i : s .start + s .len ≤ p .end - p .start = rw data-length at (h .inside) in
+      let e : take (s .len) (drop (s .start) d) ≡ l = h .bytes in
+      record {
+        verdict = refl;
+        inside = omega (arith, order k b hp a, inside k b hp a);
+        bytes = sym (part-part b (p .start) (p .end - p .start) (s .start) (s .len) i) ∙ rw (← hd) e;
+        refused = λ n q z. absurd (let y : _≡_ {A = ℕ} 0 1 = cc in omega arith);
+      }
+
+  pub moved-shows : (v : Verdict) {l : List ℕ} {s r : Span} → SpanShows d v l s → r ≡ movedSpan (s .verdict) (p .start + s .start) (s .len)
+      → SpanShows b v l r
+  moved-shows Accepted h e = rw (e, h .verdict) (accepted-shows h)
+  moved-shows (Refused n q) {l} {s} h e =
+      let z : l ≡ [] = sym (h .bytes) ∙ rw (h .refused n q refl .1) in
+      rw (e, h .verdict, z) (refused-shows b n q)
+
+  pub view-shows : (x : Question) {s r : Span} → SpanShows d (queried (opened k d) (answered k d x)) (bytesOf (answered k d x)) s
+      → r ≡ movedSpan (s .verdict) (p .start + s .start) (s .len)
+      → SpanShows b (queried (containerJudged k b) (containerAnswered k b x)) (bytesOf (containerAnswered k b x)) r
+  view-shows x {s} {r} h e =
+      let y = hd ∙ data-is k b hp a in
+      let f = before-is k b hp a in
+      let o : opened k d ≡ containerJudged k b = rw y (sym (opens-alone k b f)) in
+      let w : answered k d x ≡ containerAnswered k b x = rw y (sym (shows-alone k b f x)) in
+      rw (← o, ← w) (moved-shows (queried (opened k d) (answered k d x)) h e)
+
+  pub section-shows : (x : handed.Section) {s r : Span}
+      → SpanShows d (opened k d) (bytesBeside (opened k d) (handed.handed (editionRead k d) d x)) s
+      → r ≡ movedSpan (s .verdict) (p .start + s .start) (s .len)
+      → SpanShows b (containerJudged k b) (bytesBeside (containerJudged k b) (handed.handed (editionRead k (psvOf b)) (psvOf b) x)) r
+  section-shows x {s} {r} h e =
+      let y = hd ∙ data-is k b hp a in
+      let o : opened k d ≡ containerJudged k b = rw y (sym (opens-alone k b (before-is k b hp a))) in
+      rw (← o, ← y) (moved-shows (opened k d) h e)
+
+-- ---- one part
+part-beside : (v : Verdict) (b : List ℕ) (x : ℕ) → partBeside v (partAt b (find b x)) ≡ partIf v b x
+part-beside Accepted b x = refl
+part-beside (Refused n q) b x = refl
+
+pub part-is : (k : ℕ) (b : List ℕ) {p : PsvPart} → p ≡ psvPartOf k b → p .verdict ≡ Accepted
+    → {d : List ℕ} → d ≡ psvOf b → {v : Verdict} → v ≡ opened k d → {t : Table} → t ≡ tableOf b
+    → (x : ℕ) → partBeside v (partIn t x) ≡ containerPart k b x
+unfolding containerPart
+part-is k b hp a {d} e {v} hv {t} ht x =
+    let f = before-is k b hp a in
+    let z = before-told k b f .table in
+    let o : v ≡ containerJudged k b = hv ∙ rw e (sym (opens-alone k b f)) in
+    let q : partOf b x ≡ partAt b (find b x) = unfold partOf in rw z in
+    rw (o, ht, part-in-file b x, q) (part-beside (containerJudged k b) b x)
+
+pub no-edition-part : (k : ℕ) (b : List ℕ) (x : ℕ) → 3 < k → refusedPart (Refused 25 0) ≡ containerPart k b x
+unfolding containerPart containerJudged beforePsv check _then_
+no-edition-part k b x h = simp (lt-leb _ _ h)
+
+accepted-if : (v : Verdict) (b : List ℕ) (x : ℕ) → partIf v b x .verdict ≡ Accepted → v ≡ Accepted
+accepted-if Accepted b x h = refl
+accepted-if (Refused n q) b x h = absurd (let z : _≡_ {A = ℕ} 0 1 = cc in omega arith)
+
+found-if : (b : List ℕ) (f : Found) → partAt b f .verdict ≡ Accepted → f ≡ At (partAt b f .number)
+found-if b (At i) h = refl
+found-if b Nothing h = absurd (let z : _≡_ {A = ℕ} 0 1 = cc in omega arith)
+
+module _ (k : ℕ) (b : List ℕ) (x : ℕ) {r : Part} (hr : r ≡ containerPart k b x) where
+  pub no-data : {n q : ℕ} → r .verdict ≡ Refused n q → [] ≡ partDataOf k b x
+  unfolding partDataOf
+  no-data h = let e = rw hr at h in rw e
+
+  module _ (h : r .verdict ≡ Accepted) where
+    ok : containerPart k b x .verdict ≡ Accepted
+    ok = rw hr at h
+
+    opens : containerJudged k b ≡ Accepted
+    unfolding containerPart
+    opens = accepted-if (containerJudged k b) b x ok
+
+    shown-part : r ≡ partAt b (find b x)
+    unfolding containerPart
+    shown-part = let o = opens in hr ∙ rw o
+
+    found-number : find b x ≡ At (r .number)
+    found-number = rw shown-part (found-if b (find b x) (rw shown-part at h))
+
+    entry : r ≡ record { verdict = Accepted; number = r .number; offset = offsetAt b (r .number); size = sizeAt b (r .number) }
+    entry = shown-part ∙ ap (partAt b) found-number
+
+    table : tableJudged b ≡ Accepted
+    table = before-told k b (opened-told k b opens .0) .table
+
+    pub part-fits : r .offset + 8 + r .size ≤ length b
+    part-fits = rw entry (part-inside b table (r .number) (find-told b x (r .number) found-number .listed))
+
+    pub part-short : r .offset + 8 + r .size ≤ 16777216
+    part-short = let l = part-fits in let s = accepted-told b table .header .short in omega arith
+
+    pub part-data : take (r .offset + 8 + r .size - (r .offset + 8)) (drop (r .offset + 8) b) ≡ partDataOf k b x
+    unfolding partDataOf dataAt
+    part-data =
+        let z : r .offset + 8 + r .size - (r .offset + 8) ≡ r .size = omega arith in
+        let g = ok in
+        rw (z, g, ← hr, ← ap (λ (q : Part). q .offset) entry, ← ap (λ (q : Part). q .size) entry)

@@ -1,0 +1,59 @@
+-- What opening a container answers beside its verdict.
+use mathlib.Core.List.{List}
+use Prim.Native.Nat.{ℕ, _+_}
+use Rattle.constants.specs.Edition.{fileEdition}
+use Rattle.wire.specs.Number.{u32At}
+use Rattle.wire.specs.declared.Verdict.{Verdict}
+use Rattle.wire.specs.declared.Verdict.the-variants.{Accepted, Refused}
+use Rattle.part_table.specs.Lookup.{find, refusedPart, dataIf}
+use Rattle.part_table.specs.Table.{countOf, offsetAt}
+use Rattle.part_table.specs.declared.Found.{Found}
+use Rattle.part_table.specs.declared.Found.the-variants.{At, Nothing}
+use Rattle.part_table.specs.declared.Part.{Part}
+use Rattle.psv0.specs.Answers.{numberBeside}
+use Rattle.psv0.specs.declared.Span.{Span}
+use Rattle.psv0_layout.specs.Layout.{editionRead}
+use Rattle.container_layout.specs.Container.{psv0, sizeFound, psvOf, beforePsv, containerJudged, containerPart}
+use Rattle.container.specs.declared.ContainerOpening.{ContainerOpening}
+use Rattle.container.specs.declared.PsvPart.{PsvPart}
+
+-- where the data of a part that was looked for start
+abbrev pub startFound : List ℕ → Found → ℕ
+startFound b (At k) = offsetAt b k + 8
+startFound b Nothing = 0
+
+-- the PSV0 part, under what is checked before it: the number of parts, and where its data start and end
+unfoldable pub psvPartOf : ℕ → List ℕ → PsvPart
+psvPartOf k b =
+    record {
+      verdict = beforePsv k b;
+      parts = numberBeside (beforePsv k b) (countOf b);
+      start = numberBeside (beforePsv k b) (startFound b (find b psv0));
+      end = numberBeside (beforePsv k b) (startFound b (find b psv0) + sizeFound b (find b psv0));
+    }
+
+-- an opening under a verdict; zeros beside a refusal
+abbrev pub refusedOpening : ℕ → ℕ → ContainerOpening
+refusedOpening n p = record { verdict = Refused n p; parts = 0; «file_edition» = 0; «edition_read» = 0 }
+
+abbrev pub openingIf : Verdict → ℕ → ℕ → ℕ → ContainerOpening
+openingIf Accepted parts f e = record { verdict = Accepted; parts = parts; «file_edition» = f; «edition_read» = e }
+openingIf (Refused n p) parts f e = refusedOpening n p
+
+-- a stretch under a verdict; start and length 0 beside a refusal
+abbrev pub movedSpan : Verdict → ℕ → ℕ → Span
+movedSpan Accepted s l = record { verdict = Accepted; start = s; len = l }
+movedSpan (Refused n p) s l = record { verdict = Refused n p; start = 0; len = 0 }
+
+-- a part under a verdict
+abbrev pub partBeside : Verdict → Part → Part
+partBeside Accepted p = p
+partBeside (Refused n q) p = refusedPart (Refused n q)
+
+-- an opening at edition k: its verdict, the number of parts, the file's edition and the edition read; zeros beside a refusal
+unfoldable pub containerOpeningOf : ℕ → List ℕ → ContainerOpening
+containerOpeningOf k b = openingIf (containerJudged k b) (countOf b) (fileEdition (u32At (psvOf b) 0)) (editionRead k (psvOf b))
+
+-- the data of the part with the name x: no bytes where the query refuses
+unfoldable pub partDataOf : ℕ → List ℕ → ℕ → List ℕ
+partDataOf k b x = dataIf (containerPart k b x .verdict) b (containerPart k b x .number)

@@ -1,0 +1,316 @@
+// The opening of a whole container and the queries on its bytes, above the part table and the PSV0 reader through their promises.
+// A query gives what opening gives, 25, 1 to 9, 10, 11 and 12 to 24, then 26. Beside a refusal nothing of the file is shown.
+use part_table::Part;
+use part_table::Table;
+use psv0::ElementAnswer;
+use psv0::InfoAnswer;
+use psv0::LengthsAnswer;
+use psv0::Opening;
+use psv0::ResourceAnswer;
+use psv0::Section;
+use psv0::Span;
+use psv0::View;
+use wire::Verdict;
+ghost use mathlib.Core.Path.{_≡_};
+ghost use Prim.Native.Nat.{_+_, _≤_};
+ghost use lib.ListN.{length, take, drop};
+ghost use Rattle.wire.specs.Number.{u32At};
+ghost use Rattle.part_table.specs.Lookup.{partIn};
+ghost use Rattle.part_table.specs.Table.{tableOf};
+ghost use Rattle.psv0.specs.Answers.{infoAnswerOf, resourceAnswerOf, elementAnswerOf, lengthsAnswerOf, questionOf, sectionOf, bytesOf, bytesBeside, SpanShows};
+ghost use Rattle.psv0_layout.specs.Handed.{handed};
+ghost use Rattle.psv0_layout.specs.Layout.{editionRead, defaultEdition};
+ghost use Rattle.psv0_layout.specs.Shown.{queried};
+ghost use Rattle.container_layout.specs.Container.{psvOf, containerJudged, containerAnswered, containerPart};
+ghost use Rattle.container.specs.Opened.{psvPartOf, refusedOpening, openingIf, movedSpan, partBeside, containerOpeningOf, partDataOf};
+
+// The verdict of an opening, the number of parts, the file's edition and the edition read. A refusal has zeros.
+pub struct ContainerOpening {
+    pub verdict: Verdict,
+    pub parts: usize,
+    pub file_edition: usize,
+    pub edition_read: usize,
+}
+
+// The verdict of what is checked before the PSV0 data, the number of parts, and where the PSV0 data start and end.
+struct PsvPart {
+    verdict: Verdict,
+    parts: usize,
+    start: usize,
+    end: usize,
+}
+
+fn no_psv0(v: Verdict) -> PsvPart
+    ensures { λ r. ⌜ r ≡ record { verdict = v; parts = 0; start = 0; end = 0 } ⌝ }
+{
+    PsvPart {
+        verdict: v,
+        parts: 0,
+        start: 0,
+        end: 0,
+    }
+}
+
+// The PSV0 part of a container whose table was read: refusals 1 to 9, 10 and 11.
+fn psv0_in(b: &[u8], t: Table, edition: usize) -> PsvPart
+    requires { ⌜ (t ≡ tableOf (now b)) × (edition ≤ 3) ⌝ }
+    ensures { λ r. ⌜ r ≡ psvPartOf edition (now (b .entry)) ⌝ }
+{
+    let v = t.verdict;
+    match v {
+        Verdict::Refused(_, _) => no_psv0(v),
+        Verdict::Accepted => {
+            let n = t.count;
+            let program = part_table::part_in(t, b"DXIL");
+            if program.size == 0 {
+                return no_psv0(Verdict::Refused(10, 0));
+            }
+            let p = part_table::part_in(t, b"PSV0");
+            let found = p.verdict;
+            match found {
+                Verdict::Refused(_, _) => no_psv0(Verdict::Refused(11, 0)),
+                Verdict::Accepted => {
+                    let start = p.offset + 8;
+                    PsvPart {
+                        verdict: Verdict::Accepted,
+                        parts: n,
+                        start: start,
+                        end: start + p.size,
+                    }
+                }
+            }
+        }
+    }
+}
+
+// The PSV0 part: refusals 25, 1 to 9, 10 and 11.
+fn find_psv0(b: &[u8], edition: usize) -> PsvPart
+    ensures { λ r. ⌜ r ≡ psvPartOf edition (now (b .entry)) ⌝ }
+{
+    if 3 < edition {
+        return no_psv0(Verdict::Refused(25, 0));
+    }
+    psv0_in(b, part_table::read(b), edition)
+}
+
+fn refused_opening(n: u8, place: usize) -> ContainerOpening
+    ensures { λ r. ⌜ r ≡ refusedOpening n place ⌝ }
+{
+    ContainerOpening {
+        verdict: Verdict::Refused(n, place),
+        parts: 0,
+        file_edition: 0,
+        edition_read: 0,
+    }
+}
+
+// An opening of PSV0 data as that of its container.
+fn opening_of(o: Opening, parts: usize) -> ContainerOpening
+    ensures { λ r. ⌜ r ≡ openingIf (o .verdict) parts (o .«file_edition») (o .«edition_read») ⌝ }
+{
+    let v = o.verdict;
+    match v {
+        Verdict::Refused(n, place) => refused_opening(n, place),
+        Verdict::Accepted => ContainerOpening {
+            verdict: Verdict::Accepted,
+            parts,
+            file_edition: o.file_edition,
+            edition_read: o.edition_read,
+        },
+    }
+}
+
+// Opens a container at an edition.
+pub fn open(b: &[u8], edition: usize) -> ContainerOpening
+    ensures { λ r. ⌜ r ≡ containerOpeningOf edition (now (b .entry)) ⌝ }
+{
+    let p = find_psv0(b, edition);
+    let start = p.start;
+    let end = p.end;
+    let v = p.verdict;
+    match v {
+        Verdict::Refused(n, place) => refused_opening(n, place),
+        Verdict::Accepted => opening_of(psv0::open(&b[start..end], edition), p.parts),
+    }
+}
+
+// Opens a container at the edition that is read where none is named.
+pub fn open_default(b: &[u8]) -> ContainerOpening
+    ensures { λ r. ⌜ r ≡ containerOpeningOf defaultEdition (now (b .entry)) ⌝ }
+{
+    open(b, 1)
+}
+
+// The fields of the runtime record.
+pub fn runtime_info(b: &[u8], edition: usize) -> InfoAnswer
+    ensures { λ r. ⌜ r ≡ infoAnswerOf (containerJudged edition (now (b .entry))) (containerAnswered edition (now (b .entry))) ⌝ }
+{
+    let p = find_psv0(b, edition);
+    let start = p.start;
+    let end = p.end;
+    let v = p.verdict;
+    match v {
+        Verdict::Refused(n, place) => psv0::refused_info(n, place),
+        Verdict::Accepted => psv0::runtime_info(&b[start..end], edition),
+    }
+}
+
+// Resource record i.
+pub fn resource(b: &[u8], edition: usize, i: usize) -> ResourceAnswer
+    ensures { λ r. ⌜ r ≡ resourceAnswerOf (containerJudged edition (now (b .entry))) (containerAnswered edition (now (b .entry))) i ⌝ }
+{
+    let p = find_psv0(b, edition);
+    let start = p.start;
+    let end = p.end;
+    let v = p.verdict;
+    match v {
+        Verdict::Refused(n, place) => psv0::refused_resource(n, place),
+        Verdict::Accepted => psv0::resource(&b[start..end], edition, i),
+    }
+}
+
+// Element record i, numbered over all lists.
+pub fn element(b: &[u8], edition: usize, i: usize) -> ElementAnswer
+    ensures { λ r. ⌜ r ≡ elementAnswerOf (containerJudged edition (now (b .entry))) (containerAnswered edition (now (b .entry))) i ⌝ }
+{
+    let p = find_psv0(b, edition);
+    let start = p.start;
+    let end = p.end;
+    let v = p.verdict;
+    match v {
+        Verdict::Refused(n, place) => psv0::refused_element(n, place),
+        Verdict::Accepted => psv0::element(&b[start..end], edition, i),
+    }
+}
+
+// The lists' lengths.
+pub fn lengths(b: &[u8], edition: usize) -> LengthsAnswer
+    ensures { λ r. ⌜ r ≡ lengthsAnswerOf (containerJudged edition (now (b .entry))) (containerAnswered edition (now (b .entry))) ⌝ }
+{
+    let p = find_psv0(b, edition);
+    let start = p.start;
+    let end = p.end;
+    let v = p.verdict;
+    match v {
+        Verdict::Refused(n, place) => psv0::refused_lengths(n, place),
+        Verdict::Accepted => psv0::lengths(&b[start..end], edition),
+    }
+}
+
+// A stretch of the PSV0 data, which start at a place, as one of the container.
+fn moved(s: Span, by: usize) -> Span
+    requires { ⌜ by + s .start ≤ 16777216 ⌝ }
+    ensures { λ r. ⌜ r ≡ movedSpan (s .verdict) (by + s .start) (s .len) ⌝ }
+{
+    let v = s.verdict;
+    match v {
+        Verdict::Refused(n, place) => psv0::refused_span(n, place),
+        Verdict::Accepted => Span {
+            verdict: Verdict::Accepted,
+            start: by + s.start,
+            len: s.len,
+        },
+    }
+}
+
+// A view, as a stretch of the container.
+pub fn view_span(b: &[u8], edition: usize, view: View) -> Span
+    ensures { λ r. ⌜ SpanShows (now (b .entry)) (queried (containerJudged edition (now (b .entry))) (containerAnswered edition (now (b .entry)) (questionOf view))) (bytesOf (containerAnswered edition (now (b .entry)) (questionOf view))) r ⌝ }
+{
+    let p = find_psv0(b, edition);
+    let start = p.start;
+    let end = p.end;
+    let v = p.verdict;
+    match v {
+        Verdict::Refused(n, place) => psv0::refused_span(n, place),
+        Verdict::Accepted => moved(psv0::view_span(&b[start..end], edition, view), start),
+    }
+}
+
+// The bytes of a section for writing again, as a stretch of the container.
+pub fn section_span(b: &[u8], edition: usize, section: Section) -> Span
+    ensures { λ r. ⌜ SpanShows (now (b .entry)) (containerJudged edition (now (b .entry))) (bytesBeside (containerJudged edition (now (b .entry))) (handed (editionRead edition (psvOf (now (b .entry)))) (psvOf (now (b .entry))) (sectionOf section))) r ⌝ }
+{
+    let p = find_psv0(b, edition);
+    let start = p.start;
+    let end = p.end;
+    let v = p.verdict;
+    match v {
+        Verdict::Refused(n, place) => psv0::refused_span(n, place),
+        Verdict::Accepted => moved(psv0::section_span(&b[start..end], edition, section), start),
+    }
+}
+
+// The bytes of a stretch.
+fn stretch<'a>(b: &'a [u8], s: Span) -> &'a [u8]
+    requires { ⌜ s .start + s .len ≤ length (now b) ⌝ }
+    ensures { λ r. ⌜ now r ≡ take (s .len) (drop (s .start) (now (b .entry))) ⌝ }
+{
+    let start = s.start;
+    let end = start + s.len;
+    &b[start..end]
+}
+
+// A view's bytes, a part of the caller's slice: none where the query refuses.
+pub fn view_bytes<'a>(b: &'a [u8], edition: usize, view: View) -> &'a [u8]
+    ensures { λ r. ⌜ now r ≡ bytesOf (containerAnswered edition (now (b .entry)) (questionOf view)) ⌝ }
+{
+    stretch(b, view_span(b, edition, view))
+}
+
+// The bytes of a section for writing again, a part of the caller's slice: none where the opening refuses.
+pub fn section_bytes<'a>(b: &'a [u8], edition: usize, section: Section) -> &'a [u8]
+    ensures { λ r. ⌜ now r ≡ bytesBeside (containerJudged edition (now (b .entry))) (handed (editionRead edition (psvOf (now (b .entry)))) (psvOf (now (b .entry))) (sectionOf section)) ⌝ }
+{
+    stretch(b, section_span(b, edition, section))
+}
+
+// A part of a table under a verdict.
+fn part_under(v: Verdict, t: Table, name: &[u8; 4]) -> Part
+    ensures { λ r. ⌜ r ≡ partBeside v (partIn t (u32At (now (name .entry)) 0)) ⌝ }
+{
+    match v {
+        Verdict::Refused(n, place) => part_table::no_part(Verdict::Refused(n, place)),
+        Verdict::Accepted => part_table::part_in(t, name),
+    }
+}
+
+// One part by its name: its number, where its header starts and its data size.
+pub fn part(b: &[u8], edition: usize, name: &[u8; 4]) -> Part
+    ensures { λ r. ⌜ r ≡ containerPart edition (now (b .entry)) (u32At (now (name .entry)) 0) ⌝ }
+{
+    if 3 < edition {
+        return part_table::no_part(Verdict::Refused(25, 0));
+    }
+    let t = part_table::read(b);
+    let p = psv0_in(b, t, edition);
+    let start = p.start;
+    let end = p.end;
+    let v = p.verdict;
+    match v {
+        Verdict::Refused(n, place) => part_table::no_part(Verdict::Refused(n, place)),
+        Verdict::Accepted => {
+            let o = psv0::open(&b[start..end], edition);
+            let judged = o.verdict;
+            part_under(judged, t, name)
+        }
+    }
+}
+
+// The data of one part, a part of the caller's slice: no bytes where the query refuses.
+pub fn part_bytes<'a>(b: &'a [u8], edition: usize, name: &[u8; 4]) -> &'a [u8]
+    ensures { λ r. ⌜ now r ≡ partDataOf edition (now (b .entry)) (u32At (now (name .entry)) 0) ⌝ }
+{
+    let p = part(b, edition, name);
+    let offset = p.offset;
+    let size = p.size;
+    let v = p.verdict;
+    match v {
+        Verdict::Refused(_, _) => &b[0..0],
+        Verdict::Accepted => {
+            let start = offset + 8;
+            let end = start + size;
+            &b[start..end]
+        }
+    }
+}

@@ -1,0 +1,103 @@
+-- Spans: when one shows the bytes of a section, or of a part of one, and when it answers a query.
+-- Assumes nothing.
+use mathlib.Core.Path.{_≡_, refl, sym, ap, _∙_}
+use mathlib.Core.Bool.{Bool, true, false}
+use mathlib.Core.List.{List, []}
+use Prim.Native.Nat.{ℕ, _+_, _-_, _*_, _≤_, _<_}
+use native.Mathlib.Omega.{arith}
+use lib.Dec.{leb, ltb}
+use lib.ListN.{length, getD, take, drop, length-drop}
+use lib.Seq.{length-take-le}
+use borrow.Author.Tests.{ltb-true, leb-true, leb-false}
+use Rattle.wire.specs.Choice.{choose}
+use Rattle.wire.specs.Number.{u32At}
+use Rattle.wire.specs.Verdict.{_then_, check}
+use Rattle.wire.specs.declared.Verdict.the-variants.{Accepted, Refused}
+use Rattle.wire.proofs.Choices.{both}
+use Rattle.psv0_layout.specs.Handed.{fromOne}
+use Rattle.psv0_layout.specs.Position.{NoZero}
+use Rattle.psv0_layout.specs.Reference.{stringGood, stringAt, indexTotal, indexAt, indexGood, arrayAt}
+use Rattle.psv0_layout.specs.Shown.{Value, unset, view, queried}
+use Rattle.psv0_layout.proofs.Positions.{part-part}
+use Rattle.psv0_layout.proofs.References.{string-is, index-at, array-at}
+use Rattle.psv0.specs.Answers.{SpanShows, refusedSpan}
+use Rattle.psv0.specs.Parts.{acceptedSpan, SpanAnswers}
+use Rattle.psv0.specs.declared.Span.{Span}
+
+not-refused : (n p : ℕ) → Accepted ≡ Refused n p → ⊥
+not-refused n p e = let z : _≡_ {A = ℕ} 0 1 = cc in omega arith
+
+module _ (d : List ℕ) where
+  -- ---- answers to queries
+  pub answers : (l : List ℕ) (x : Value) (s : Span) → view l ≡ x → SpanShows d Accepted l s → SpanAnswers d x s
+  unfolding queried _then_ check
+  answers l x s e h = rw (← e) h
+
+  pub refused-shows : (n p : ℕ) → SpanShows d (Refused n p) [] (refusedSpan n p)
+  refused-shows n p = record { verdict = refl; inside = omega arith; bytes = refl; refused = λ a b e. (refl, refl) }
+
+  pub no-answer : (x : Value) → unset ≡ x → SpanAnswers d x (refusedSpan 26 0)
+  unfolding queried _then_ check
+  no-answer x e = rw (← e) (refused-shows 26 0)
+
+  -- ---- n bytes of the data from a position on are t
+  module _ (t : List ℕ) (at n : ℕ) (e : take n (drop at d) ≡ t) (fits : at + n ≤ length d) where
+    pub whole-shows : SpanShows d Accepted t (acceptedSpan at n)
+    whole-shows = record { verdict = refl; inside = fits; bytes = e; refused = λ a b q. absurd (not-refused a b q) }
+
+    pub part-shows : (o m : ℕ) → o + m ≤ n → SpanShows d Accepted (take m (drop o t)) (acceptedSpan (at + o) m)
+    part-shows o m h =
+        record {
+          verdict = refl;
+          inside = omega arith;
+          bytes = sym (part-part d at n o m h) ∙ ap (λ x. take m (drop o x)) e;
+          refused = λ a b q. absurd (not-refused a b q);
+        }
+
+    pub stretch-length : length t ≡ n
+    stretch-length = rw (← e) (length-take-le n (drop at d) (simp length-drop (omega arith)))
+
+    -- t is the string table, and the string at o has m bytes
+    pub string-shows : (o m : ℕ) → o + m ≤ length t → stringAt t o ≡ take m (drop o t) → SpanShows d Accepted (stringAt t o) (acceptedSpan (at + o) m)
+    string-shows o m h q = let l = stretch-length in rw q (part-shows o m (omega arith))
+
+-- a search from o on that has passed n bytes without a zero, and stops at one or at the end
+pub string-ends : (t : List ℕ) (o n i : ℕ) → i ≡ o + n → i ≤ length t → (i < length t → getD t i 0 ≡ 0) → NoZero t o i
+    → (o + n ≤ length t) × (stringAt t o ≡ take n (drop o t))
+string-ends t o n i e h z f = let q : i - o ≡ n = omega arith in (omega arith, rw (← q) (string-is t o i (omega arith) h z f))
+
+-- ---- good references
+pub string-inside : (t : List ℕ) (o : ℕ) → stringGood t o ≡ true → o < length t
+unfolding stringGood
+string-inside t o e = ltb-true o (length t) (both (ltb o (length t)) _ e .0)
+
+index-inside : (x : List ℕ) (i : ℕ) → indexGood x i ≡ true → (i < indexTotal x) × (i + 1 + indexAt x i ≤ indexTotal x)
+unfolding indexGood
+index-inside x i e =
+    let (a, b) = both (ltb i (indexTotal x)) _ e in
+    (ltb-true i (indexTotal x) a, leb-true (i + 1 + indexAt x i) (indexTotal x) b)
+
+-- the index table is n numbers from a position on
+pub array-shows : (d : List ℕ) (at n i : ℕ) → at + n * 4 ≤ length d → indexGood (take (n * 4) (drop at d)) i ≡ true
+    → SpanShows d Accepted (arrayAt (take (n * 4) (drop at d)) i) (acceptedSpan (at + i * 4 + 4) (u32At d (at + i * 4) * 4))
+array-shows d at n i fits g =
+    let x = take (n * 4) (drop at d) in
+    let good = index-inside x i g in
+    let long = stretch-length d x at (n * 4) refl fits in
+    let h : i < n = omega arith in
+    let count = index-at d at n i h in
+    let room : i + 1 + u32At d (at + i * 4) ≤ n = omega arith in
+    let start : at + (i + 1) * 4 ≡ at + i * 4 + 4 = omega arith in
+    rw (← start) (whole-shows d (arrayAt x i) (at + (i + 1) * 4) (u32At d (at + i * 4) * 4) (sym (array-at d at n i h room)) (omega arith))
+
+-- ---- a section that is unset at edition read 0
+pub from-one-shows : (d t : List ℕ) (er at n : ℕ)
+    → (1 ≤ er → (take n (drop at d) ≡ t) × (at + n ≤ length d)) → (er ≡ 0 → (at ≡ 0) × (n ≡ 0))
+    → SpanShows d Accepted (fromOne er t) (acceptedSpan at n)
+from-one-shows d t er at n f g = go (leb 1 er) (leb-true 1 er) (leb-false 1 er)
+  where
+    go : (b : Bool) → (b ≡ true → 1 ≤ er) → (b ≡ false → er < 1) → SpanShows d Accepted (choose b t []) (acceptedSpan at n)
+    go true p q = whole-shows d t at n (f (p refl) .0) (f (p refl) .1)
+    go false p q =
+        let z : er ≡ 0 = omega (arith, q refl) in
+        rw (g z .0, g z .1) (whole-shows d [] 0 0 refl (omega arith))

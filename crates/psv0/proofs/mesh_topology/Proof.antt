@@ -1,0 +1,15 @@
+use borrow.Author.Needs.{needs}
+use Rattle.psv0.proofs.mesh_topology.Statement.{statement}
+use Rattle.psv0.proofs.mesh_topology.Tie as tie
+
+returns : tie.Need-returns
+returns c = rw (← (c .before .before .byte-at .ensures), ← (c .before .byte-at2 .ensures)) (c .from-if .ensures)
+
+pub mesh-topology-spec : {M : Type 1} → statement M
+mesh-topology-spec =
+    tie.close (tie.spec
+    (λ c κs. search needs)
+    (λ c κs. search needs)
+    (λ c. search needs)
+    (λ c κs. search needs)
+    returns)

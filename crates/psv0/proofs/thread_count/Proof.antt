@@ -1,0 +1,15 @@
+use borrow.Author.Needs.{needs}
+use Rattle.psv0.proofs.thread_count.Statement.{statement}
+use Rattle.psv0.proofs.thread_count.Tie as tie
+
+returns : tie.Need-returns
+returns c = rw (← (c .before .before .before .byte-at .ensures), ← (c .before .«u32-at» .ensures), ← (c .before .before .one-of .ensures)) (c .from-if .ensures)
+
+pub thread-count-spec : {M : Type 1} → statement M
+thread-count-spec =
+    tie.close (tie.spec
+    (λ c κs. search needs)
+    (λ c κs. search needs)
+    (λ c κs. search needs)
+    (λ c κs. search needs)
+    returns)

@@ -1,0 +1,97 @@
+use Prim.Native.Nat.{_≤_, _-_, _*_}
+use mathlib.Core.Path.{_≡_, refl, sym, _∙_}
+use native.Mathlib.Omega.{arith}
+use native.Mathlib.Numerals.{add-one}
+use native.Mathlib.Nat.{zero-mul, suc-mul}
+use borrow.Author.Needs.{needs}
+use borrow.Author.Tests.{not-true, not-false}
+use lib.ListN.{length}
+use Rattle.wire.specs.Verdict.{each}
+use Rattle.wire.specs.declared.Verdict.the-variants.{Accepted}
+use Rattle.psv0_layout.specs.Judged.{elementJudged}
+use Rattle.psv0_layout.specs.Layout.{Body, rows}
+use Rattle.psv0_sections.specs.Steps.{Judging}
+use Rattle.psv0_sections.proofs.Judgements.{stays-inside, name-22, index-23, element-passes, elements-pass}
+use Rattle.psv0_sections.proofs.judge_elements.Statement.{statement}
+use Rattle.psv0_sections.proofs.judge_elements.Tie as tie
+
+abbrev Inv-loop : tie.InvT-loop
+Inv-loop end x e stride count i₀ at₀ i at =
+    (i ≤ count)
+    × (at ≡ i * stride)
+    × ((b : Body) → Judging b end x (rows 16 count stride e) → each (elementJudged (b .strings) (b .indices) (b .elements)) i ≡ Accepted)
+
+abbrev μ-loop : tie.MeasureT-loop
+μ-loop end x e stride count i₀ at₀ i at = count - i
+
+loop-holds : tie.Need-loop-holds Inv-loop μ-loop
+loop-holds c = (search needs, sym (zero-mul _), λ b j. unfold each in refl)
+
+returns : tie.Need-returns Inv-loop μ-loop
+returns c =
+    let n = c .before .before in
+    let l = n .before .loop in
+    λ b j. name-22 _ _ _ _ _ b j _ _ _ (n .loop-test .taken) (l .inv .1) (c .before .u32-at .ensures) (l .inv .2 b j) (c .if1 .taken)
+
+add-u32-at : tie.Need-add-u32-at Inv-loop μ-loop
+add-u32-at c =
+    let n = c .before .before in
+    let l = n .before .loop in
+    let s = n .before .before .before .before in
+    omega (arith, stays-inside (l .i) (s .args .count) (s .args .stride) (length (s .args .e .now)) (n .loop-test .taken) (s .pre))
+
+returns-2 : tie.Need-returns-2 Inv-loop μ-loop
+returns-2 c =
+    let t = c .before .before .before in
+    let n = t .before .before in
+    let l = n .before .loop in
+    λ b j.
+    index-23 _ _ _ _ _ b j _ _ _ (n .loop-test .taken) (l .inv .1) (t .before .u32-at .ensures) (l .inv .2 b j) (t .if1 .left) _
+    (c .before .before .u32-at2 .ensures) (sym (c .before .index-good .ensures) ∙ not-true _ (c .if2 .taken))
+
+add-at : tie.Need-add-at Inv-loop μ-loop
+add-at c =
+    let n = c .before .before .before .before .before in
+    let l = n .before .loop in
+    let s = n .before .before .before .before in
+    omega (arith, stays-inside (l .i) (s .args .count) (s .args .stride) (length (s .args .e .now)) (n .loop-test .taken) (s .pre))
+
+loop-again : tie.Need-loop-again Inv-loop μ-loop
+loop-again c =
+    let t = c .before .before .before in
+    let n = t .before .before in
+    let l = n .before .loop in (
+      omega (arith, n .loop-test .taken),
+      simp (add-one, suc-mul, l .inv .1),
+      λ b j.
+          element-passes _ _ _ _ _ b j _ _ _ (n .loop-test .taken) (l .inv .1) (t .before .u32-at .ensures) (l .inv .2 b j) (t .if1 .left) _
+          (c .before .before .u32-at2 .ensures) (sym (c .before .index-good .ensures) ∙ not-false _ (c .if2 .left)),
+    )
+
+returns-3 : tie.Need-returns-3 Inv-loop μ-loop
+returns-3 c =
+    let l = c .before .loop in
+    let s = c .before .before .before .before in
+    let q : s .args .count ≡ l .i = omega (arith, l .inv .0, c .loop-test .left) in
+    λ b j. elements-pass _ _ _ _ _ b j _ q (l .inv .2 b j)
+
+pub judge-elements-spec : {M : Type 1} → statement M
+judge-elements-spec =
+    tie.close
+    (tie.spec
+    Inv-loop
+    μ-loop
+    loop-holds
+    (λ c κs. search needs)
+    (λ c. search needs)
+    returns
+    add-u32-at
+    (λ c κs. search needs)
+    (λ c. search needs)
+    (λ c κs. search needs)
+    returns-2
+    (λ c. search needs)
+    add-at
+    (λ c. search needs)
+    loop-again
+    returns-3)

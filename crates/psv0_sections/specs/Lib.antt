@@ -1,0 +1,3 @@
+pub mod Given
+pub mod Places
+pub mod Steps

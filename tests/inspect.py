@@ -1,0 +1,97 @@
+#!/usr/bin/env python3
+"""inspect.py PROGRAM: runs the small program on made containers and compares what it prints with what document 01 says."""
+import struct
+import subprocess
+import sys
+
+
+def word(n):
+    return struct.pack("<I", n)
+
+
+def box(parts, magic=b"DXBC", version=(1, 0), size=None, count=None, offsets=None):
+    """A container of (name, data) pairs, one right after the other; fields can be set wrong."""
+    at = 32 + 4 * len(parts)
+    places, body = [], b""
+    for name, data in parts:
+        places.append(at)
+        body += name + word(len(data)) + data
+        at += 8 + len(data)
+    header = magic + bytes(16) + struct.pack("<HH", *version)
+    header += word(at if size is None else size) + word(len(parts) if count is None else count)
+    return header + b"".join(word(o) for o in (offsets or places)) + body
+
+
+def psv0(size=52, stage=5, view=0, vectors=(0, 0, 0, 0), counts=(0, 0, 0), indices=b"", stride=16, elements=b"", name=1):
+    """PSV0 data with the strings of box C."""
+    record = bytearray(size)
+    record[24], record[25] = stage, view
+    record[28:31], record[32:36] = bytes(counts), bytes(vectors)
+    if size >= 52:
+        record[48:52] = word(name)
+    data = word(size) + bytes(record) + word(0) + word(8) + b"\0main\0\0\0" + word(len(indices) // 4) + indices
+    return data + (word(stride) + elements if sum(counts) else b"")
+
+
+PROGRAM = (b"DXIL", bytes([1, 2, 3, 4]))
+EDITION_0 = (b"PSV0", word(24) + bytes(24) + word(0))
+M = box([PROGRAM, EDITION_0])
+TABLE_C = "accepted 3 2\nDXIL 40 4 known\nPSV0 52 76 known\n"
+THREE = "accepted 0 3\nDXIL 44 4 known\nPSV0 56 32 known\n"
+LONGEST = box([PROGRAM, EDITION_0, (b"PRIV", bytes(65432))])
+GOOD, BAD_NAME, BAD_INDEX = word(1) + word(0) + bytes(8), word(8) + word(0) + bytes(8), word(1) + word(1) + bytes(8)
+
+
+def with_psv0(data):
+    return box([PROGRAM, (b"PSV0", data)])
+
+
+CASES = [
+    ("box M", M, "accepted 0 2\nDXIL 40 4 known\nPSV0 52 32 known\n"),
+    ("box C", with_psv0(psv0()), TABLE_C),
+    ("box C with name offset 8, at edition 1", with_psv0(psv0(name=8)), TABLE_C),
+    ("no bytes", b"", "refused 1 0\n"),
+    ("31 bytes", M[:31], "refused 1 0\n"),
+    ("magic", b"DXBD" + M[4:], "refused 3 0\n"),
+    ("version 1.1", box([PROGRAM, EDITION_0], version=(1, 1)), "refused 4 0\n"),
+    ("file size", box([PROGRAM, EDITION_0], size=91), "refused 5 0\n"),
+    ("97 parts", box([], count=97), "refused 6 0\n"),
+    ("offset table past the end", box([], count=1), "refused 7 0\n"),
+    ("a part one byte early", box([PROGRAM, EDITION_0], offsets=[40, 51]), "refused 8 1\n"),
+    ("a name twice", box([PROGRAM, EDITION_0, PROGRAM]), "refused 9 2\n"),
+    ("no DXIL", box([EDITION_0]), "refused 10 0\n"),
+    ("an empty DXIL", box([(b"DXIL", b""), EDITION_0]), "refused 10 0\n"),
+    ("no PSV0", box([PROGRAM]), "refused 11 0\n"),
+    ("S = 26", with_psv0(word(26) + bytes(30)), "refused 12 0\n"),
+    ("S = 20", with_psv0(word(20) + bytes(24)), "refused 12 0\n"),
+    ("a cut runtime record", with_psv0(word(28) + bytes(24)), "refused 13 0\n"),
+    ("a cut resource record", with_psv0(word(24) + bytes(24) + word(1) + word(16) + bytes(12)), "refused 14 0\n"),
+    ("stage 16", with_psv0(psv0(stage=16)), "refused 15 0\n"),
+    ("UsesViewID 2", with_psv0(psv0(view=2)), "refused 16 0\n"),
+    ("vectors in stream 1", with_psv0(psv0(vectors=(0, 1, 0, 0))), "refused 17 0\n"),
+    ("T = 3", with_psv0(word(36) + bytes(36) + word(0) + word(3) + bytes(3) + word(0)), "refused 18 0\n"),
+    ("a cut index table", with_psv0(word(36) + bytes(36) + word(0) + word(0) + word(1)), "refused 19 0\n"),
+    ("elements of 12 bytes", with_psv0(psv0(counts=(1, 0, 0), stride=12, elements=bytes(12))), "refused 20 0\n"),
+    ("no masks", with_psv0(psv0(view=1, vectors=(1, 0, 0, 0))), "refused 21 0\n"),
+    ("the name of element 2", with_psv0(psv0(counts=(1, 2, 0), indices=word(0), elements=GOOD + GOOD + BAD_NAME)), "refused 22 2\n"),
+    ("the index of element 1", with_psv0(psv0(counts=(1, 1, 1), indices=word(0), elements=GOOD + BAD_INDEX + BAD_NAME)), "refused 23 1\n"),
+    ("an unknown name", box([PROGRAM, EDITION_0, (b"ABCD", b"xyz")]), THREE + "ABCD 96 3 unknown\n"),
+    ("odd name bytes", box([PROGRAM, EDITION_0, (b"!\x20\x7f\xff", b"")]), THREE + "!??? 96 0 unknown\n"),
+    ("65,536 bytes", LONGEST, THREE + "PRIV 96 65432 known\n"),
+    ("65,537 bytes", LONGEST + b"\0", "too long\n"),
+]
+
+
+def main():
+    assert len(M) == 92 and len(with_psv0(psv0())) == 136 and len(LONGEST) == 65536
+    wrong = 0
+    for label, data, said in CASES:
+        got = subprocess.run([sys.argv[1]], input=data, capture_output=True, check=True).stdout.decode()
+        if got != said:
+            wrong += 1
+            print(f"inspect: {label}: printed {got!r}, and document 01 says {said!r}")
+    print(f"inspect: {len(CASES) - wrong} of {len(CASES)} containers print what document 01 says")
+    sys.exit(1 if wrong else 0)
+
+
+main()
