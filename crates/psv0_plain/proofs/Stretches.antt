@@ -1,6 +1,6 @@
 -- What is written, stretch after stretch, and its length.
 -- Assumes nothing.
-use Prim.Native.Nat.{ℕ, _%_}
+use Prim.Native.Nat.{ℕ, _+_, _%_}
 use mathlib.Core.Path.{_≡_, refl}
 use mathlib.Core.Bool.{Bool, true, false}
 use mathlib.Core.List.{List, [], append-nil}
@@ -18,12 +18,21 @@ use Rattle.psv0_plain.specs.Written.{Given, recordsFrom, sectionsFrom, w
 use Rattle.psv0_plain.proofs.GivenRecords.{element-size, resource-size, laid-from}
 use Rattle.psv0_plain.proofs.Lengths.{Lengths}
 
-size-field : (s : ℕ) (b : List ℕ) → length (sizeField s b) ≡ sizeFieldLength b
+pub size-field : (s : ℕ) (b : List ℕ) → length (sizeField s b) ≡ sizeFieldLength b
 size-field s b = go (eqb (length b) 0)
   where
     go : (t : Bool) → length (choose t [] (le32 s)) ≡ choose t 0 4
     go true = refl
     go false = le32-length s
+
+-- how long the stretches of sections 1 and 2 are, before l, and those of sections 3 to 6
+pub head-length : (e : ℕ) (g : Given) (l : List ℕ) → length (headBytes e g l) ≡ headLength g + length l
+unfolding headBytes headLength
+head-length e g l = simp (length-append, le32-length, size-field) (omega arith)
+
+pub body-length : (g : Given) → length (bodyBytes g) ≡ bodyLength g
+unfolding bodyBytes bodyLength
+body-length g = simp (length-append, le32-length, size-field) (omega arith)
 
 module _ (e : ℕ) (g : Given) (r : Lengths e g) where
   pub whole-elements : length (g .elements) % 16 ≡ 0
@@ -37,17 +46,13 @@ module _ (e : ℕ) (g : Given) (r : Lengths e g) where
   unfolding written headLaid writtenBytes headBytes sectionsFrom recordsFrom
   stretches-laid = simp (laid-from (resource-size e) (g .resources) (r .resources), body-stretches)
 
-  body-length : length (bodyBytes g) ≡ bodyLength g
-  unfolding bodyBytes bodyLength
-  body-length = simp (length-append, le32-length, size-field) (omega arith)
-
   rest-length : length (choose (leb 1 e) (bodyBytes g) []) ≡ choose (leb 1 e) (bodyLength g) 0
   rest-length = go (leb 1 e)
     where
       go : (t : Bool) → length (choose t (bodyBytes g) []) ≡ choose t (bodyLength g) 0
-      go true = body-length
+      go true = body-length g
       go false = refl
 
   pub length-laid : length (written e g) ≡ writtenLength e g
-  unfolding writtenLength writtenBytes headLength headBytes
-  length-laid = rw stretches-laid (simp (length-append, le32-length, size-field, rest-length) (omega arith))
+  unfolding writtenLength writtenBytes
+  length-laid = rw (stretches-laid, head-length, rest-length)

@@ -1,4 +1,4 @@
--- Laws of a slice that is written stretch after stretch: f stands before the place e, and from e on the slice is as it was, o.
+-- Laws of a slice that is written stretch after stretch.
 -- Assumes nothing.
 use Prim.Native.Nat.{ℕ, _+_, _-_, _≤_, _<_}
 use mathlib.Core.Path.{_≡_, refl, sym, _∙_, ap}
@@ -7,7 +7,7 @@ use native.Mathlib.Numerals.{add-one}
 use native.Mathlib.Nat.{zero-add}
 use native.Mathlib.Omega.{arith}
 use lib.ListN.{length, getD, take, drop, set, length-append, length-drop, drop-of-length-le}
-use lib.Seq.{take-at, drop-at, drop-drop, paste-suc, take-length, drop-length, length-take-le}
+use lib.Seq.{take-at, drop-at, drop-drop, paste-suc, take-length, length-take-le}
 use borrow.Author.Tests.{eq-eqb, ne-eqb}
 use Rattle.wire.specs.Number.{placed}
 use Rattle.wire.specs.Stretch.{copied}
@@ -31,23 +31,73 @@ module _ (o s : List ℕ) where
       let d : drop (length s) o ≡ [] = drop-of-length-le o {i = length s} (omega arith) in
       rw (q, take-length s, d, append-nil) (sym (copied-is e))
 
-module _ (o f : List ℕ) (e : ℕ) (h : length f ≡ e) where
-  -- the stretch from e to t is lent
-  pub lent : (t : ℕ) → take (t - e) (drop e (f ++ drop e o)) ≡ take (t - e) (drop e o)
-  lent t = rw (drop-at f (drop e o) e h)
+-- a slice that held o and holds x: f has been written up to the place e, and from there on it is as it was
+pub record Written (o f : List ℕ) (e : ℕ) (x : List ℕ) : Type 0 where
+  pub long : length f ≡ e
+  pub holds : x ≡ f ++ drop e o
 
-  pub lent-length : (t : ℕ) → t ≤ length o → length (take (t - e) (drop e (f ++ drop e o))) ≡ t - e
-  lent-length t l = rw (drop-at f (drop e o) e h) (length-take-le (t - e) (drop e o) (rw length-drop (omega arith)))
+pub none-written : (o : List ℕ) → Written o [] 0 o
+none-written o = record { long = refl; holds = refl }
 
-  -- and comes back as v
-  pub back : (t : ℕ) (v : List ℕ) → e ≤ t → take e (f ++ drop e o) ++ (v ++ drop (t - e) (drop e (f ++ drop e o))) ≡ (f ++ v) ++ drop t o
-  back t v l =
-      let q : e + (t - e) ≡ t = omega arith in
-      rw (take-at f (drop e o) e h, drop-at f (drop e o) e h, drop-drop (t - e) e o, q, append-assoc)
+module _ {o f x : List ℕ} {e : ℕ} (w : Written o f e x) where
+  pub written-length : e ≤ length o → length x ≡ length o
+  written-length h = let l = w .long in w-holds ∙ simp (length-append, length-drop) (omega arith)
+    where
+      w-holds : length x ≡ length (f ++ drop e o)
+      w-holds = ap length (w .holds)
+
+  pub all-written : length o ≡ e → x ≡ f
+  all-written h =
+      let d : drop e o ≡ [] = drop-of-length-le o {i = e} (omega arith) in
+      w .holds ∙ rw (d, append-nil)
+
+  pub front : take e x ≡ f
+  front = rw (w .holds) (take-at f (drop e o) e (w .long))
+
+  rest : drop e x ≡ drop e o
+  rest = rw (w .holds) (drop-at f (drop e o) e (w .long))
+
+  -- the stretch from e to t is lent, and comes back as y
+  module _ (t : ℕ) (h : e ≤ t) where
+    pub lent-length : t ≤ length o → length (take (t - e) (drop e x)) ≡ t - e
+    lent-length l = rw rest (length-take-le (t - e) (drop e o) (rw length-drop (omega arith)))
+
+    pub written-more : {y : List ℕ} (s : List ℕ) → y ≡ s → length s ≡ t - e → Written o (f ++ s) t (take e x ++ (y ++ drop (t - e) (drop e x)))
+    written-more s q l =
+        let k = w .long in
+        let m : e + (t - e) ≡ t = omega arith in
+        record {
+          long = rw length-append (omega arith);
+          holds = rw (q, front, rest, drop-drop (t - e) e o, m, append-assoc);
+        }
+
+    pub written-copy : {y : List ℕ} (s : List ℕ) → t ≤ length o → length s ≡ t - e → y ≡ copied (take (t - e) (drop e x)) s
+        → Written o (f ++ s) t (take e x ++ (y ++ drop (t - e) (drop e x)))
+    written-copy s l k q = written-more s (q ∙ copied-is _ s (lent-length l ∙ sym k)) k
 
   -- a number's bytes v are put at e
-  pub put-next : (v : List ℕ) → e + length v ≤ length o → placed (f ++ drop e o) e v ≡ (f ++ v) ++ drop (e + length v) o
-  put-next v l =
-      let g : e + length v ≤ length (f ++ drop e o) = rw (length-append, length-drop) (omega arith) in
-      placed-in (f ++ drop e o) e v g
-      ∙ rw (take-at f (drop e o) e h, ← drop-drop (length v) e (f ++ drop e o), drop-at f (drop e o) e h, drop-drop, append-assoc)
+  pub written-number : {y : List ℕ} (v : List ℕ) (t : ℕ) → e + length v ≡ t → t ≤ length o → y ≡ placed x e v → Written o (f ++ v) t y
+  written-number v t h l q =
+      let n = written-length (omega arith) in
+      let k = w .long in
+      let g : e + length v ≤ length x = omega arith in
+      record {
+        long = rw length-append (omega arith);
+        holds = q ∙ placed-in x e v g ∙ rw (front, ← drop-drop (length v) e x, rest, drop-drop, h, append-assoc);
+      }
+
+-- a stretch from the start was lent and came back as v
+pub front-written : (o v : List ℕ) (e : ℕ) → length v ≡ e → Written o v e (v ++ drop e o)
+front-written o v e h = record { long = h; holds = refl }
+
+-- the stretch from e to the end is lent, and comes back as y
+module _ {o f x : List ℕ} {e : ℕ} (w : Written o f e x) (h : e ≤ length o) where
+  pub rest-length : length (take (length x - e) (drop e x)) ≡ length o - e
+  rest-length = let l = written-length w h in lent-length w (length x) (omega arith) (omega arith) ∙ omega arith
+
+  pub rest-written : {y : List ℕ} (s : List ℕ) → y ≡ s → length s ≡ length o - e → take e x ++ (y ++ drop (length x - e) (drop e x)) ≡ f ++ s
+  rest-written s q k = let l = written-length w h in all-written (written-more w (length x) (omega arith) s q (omega arith)) (omega arith)
+
+  pub rest-copied : {y : List ℕ} (s : List ℕ) → length s ≡ length o - e → y ≡ copied (take (length x - e) (drop e x)) s
+      → take e x ++ (y ++ drop (length x - e) (drop e x)) ≡ f ++ s
+  rest-copied s k q = rest-written s (q ∙ copied-is _ s (rest-length ∙ sym k)) k

@@ -1,6 +1,5 @@
-use Rattle.psv0_sections.proofs.Judgements.{given-early, given-fields, given-elements, given-entry}
-use native.Mathlib.Omega.{arith}
 use borrow.Author.Needs.{needs}
+use Rattle.psv0_sections.proofs.Judgements.{given-early, given-fields, given-elements, given-entry}
 use Rattle.psv0_sections.proofs.judge_given.Statement.{statement}
 use Rattle.psv0_sections.proofs.judge_given.Tie as tie
 

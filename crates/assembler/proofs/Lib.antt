@@ -1,0 +1,4 @@
+pub mod Answers
+pub mod Checks
+pub mod RoundTrip
+pub mod Sections

@@ -1,0 +1,5 @@
+pub mod Joined
+pub mod Lengths
+pub mod Places
+pub mod Reading
+pub mod RoundTrip
