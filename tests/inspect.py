@@ -1,50 +1,13 @@
 #!/usr/bin/env python3
 """inspect.py PROGRAM: runs the small program on made containers and compares what it prints with what document 01 says."""
-import struct
 import subprocess
 import sys
 
+from containers import EDITION_0, LONGEST, M, PROGRAM, box, psv0, with_psv0, word
 
-def word(n):
-    return struct.pack("<I", n)
-
-
-def box(parts, magic=b"DXBC", version=(1, 0), size=None, count=None, offsets=None):
-    """A container of (name, data) pairs, one right after the other; fields can be set wrong."""
-    at = 32 + 4 * len(parts)
-    places, body = [], b""
-    for name, data in parts:
-        places.append(at)
-        body += name + word(len(data)) + data
-        at += 8 + len(data)
-    header = magic + bytes(16) + struct.pack("<HH", *version)
-    header += word(at if size is None else size) + word(len(parts) if count is None else count)
-    return header + b"".join(word(o) for o in (offsets or places)) + body
-
-
-def psv0(size=52, stage=5, view=0, vectors=(0, 0, 0, 0), counts=(0, 0, 0), indices=b"", stride=16, elements=b"", name=1):
-    """PSV0 data with the strings of box C."""
-    record = bytearray(size)
-    record[24], record[25] = stage, view
-    record[28:31], record[32:36] = bytes(counts), bytes(vectors)
-    if size >= 52:
-        record[48:52] = word(name)
-    data = word(size) + bytes(record) + word(0) + word(8) + b"\0main\0\0\0" + word(len(indices) // 4) + indices
-    return data + (word(stride) + elements if sum(counts) else b"")
-
-
-PROGRAM = (b"DXIL", bytes([1, 2, 3, 4]))
-EDITION_0 = (b"PSV0", word(24) + bytes(24) + word(0))
-M = box([PROGRAM, EDITION_0])
 TABLE_C = "accepted 3 2\nDXIL 40 4 known\nPSV0 52 76 known\n"
 THREE = "accepted 0 3\nDXIL 44 4 known\nPSV0 56 32 known\n"
-LONGEST = box([PROGRAM, EDITION_0, (b"PRIV", bytes(65432))])
 GOOD, BAD_NAME, BAD_INDEX = word(1) + word(0) + bytes(8), word(8) + word(0) + bytes(8), word(1) + word(1) + bytes(8)
-
-
-def with_psv0(data):
-    return box([PROGRAM, (b"PSV0", data)])
-
 
 CASES = [
     ("box M", M, "accepted 0 2\nDXIL 40 4 known\nPSV0 52 32 known\n"),

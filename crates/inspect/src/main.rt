@@ -1,50 +1,7 @@
 // Reads a container of at most 65,536 bytes from standard input and prints its part table, or its refusal.
-use libc::STDOUT_FILENO;
+use printing::number;
+use printing::text;
 use wire::Verdict;
-
-fn text(s: &[u8]) {
-    io::write_all(STDOUT_FILENO, s);
-}
-
-fn number(n: usize) {
-    io::print_decimal(STDOUT_FILENO, n as u64);
-}
-
-// A name's byte, or `?` where it is outside 33 to 126.
-fn printable(x: u32) -> u8 {
-    let c = x % 256;
-    if 33 <= c {
-        if c <= 126 {
-            return c as u8;
-        }
-    }
-    b'?'
-}
-
-// A name, given as its number: the four bytes, least first.
-fn name(x: u32) {
-    let bytes = [
-        printable(x),
-        printable(x / 256),
-        printable(x / 65536),
-        printable(x / 16777216),
-    ];
-    text(&bytes);
-}
-
-// A part's line: its name, where its header starts, its data size, and whether the name is known.
-fn part(x: u32, offset: u32, size: u32) {
-    name(x);
-    text(b" ");
-    number(offset as usize);
-    text(b" ");
-    number(size as usize);
-    if constants::known_name(x) {
-        text(b" known\n");
-    } else {
-        text(b" unknown\n");
-    }
-}
 
 fn table(b: &[u8]) {
     let t = part_table::read(b);
@@ -52,7 +9,7 @@ fn table(b: &[u8]) {
     let mut i = 0;
     while i < 96 {
         if i < n {
-            part(t.names[i], t.offsets[i], t.sizes[i]);
+            printing::part(t.names[i], t.offsets[i], t.sizes[i]);
         }
         i += 1;
     }
@@ -70,13 +27,7 @@ fn report(b: &[u8]) {
             text(b"\n");
             table(b);
         }
-        Verdict::Refused(n, p) => {
-            text(b"refused ");
-            number(n as usize);
-            text(b" ");
-            number(p);
-            text(b"\n");
-        }
+        Verdict::Refused(n, p) => printing::refusal(n, p),
     }
 }
 

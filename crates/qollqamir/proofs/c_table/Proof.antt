@@ -1,0 +1,13 @@
+use Rattle.qollqamir.specs.Boundary.{cTable}
+use borrow.Author.Needs.{needs}
+use Rattle.qollqamir.proofs.c_table.Statement.{statement}
+use Rattle.qollqamir.proofs.c_table.Tie as tie
+
+returns : tie.Need-returns
+unfolding cTable
+returns c = rw (c .c-verdict .ensures)
+
+pub c-table-spec : {M : Type 1} → statement M
+c-table-spec = tie.close (tie.spec
+    (λ c κs. search needs)
+    returns)

@@ -1,0 +1,170 @@
+-- What crosses the boundary, from what the calls answer.
+use mathlib.Core.Path.{_≡_}
+use mathlib.Core.Bool.{true, false}
+use mathlib.Core.List.{List, []}
+use Prim.Native.Nat.{ℕ, _+_, _≤_}
+use lib.Dec.{eqb, ltb}
+use lib.ListN.{length, take, drop}
+use Rattle.wire.specs.Choice.{choose}
+use Rattle.wire.specs.Verdict.{numberOf, placeOf}
+use Rattle.wire.specs.declared.Verdict.{Verdict}
+use Rattle.wire.specs.declared.Verdict.the-variants.{Accepted, Refused}
+use Rattle.assembler.specs.declared.Assembly.{Assembly}
+use Rattle.container.specs.declared.ContainerOpening.{ContainerOpening}
+use Rattle.part_table.specs.declared.Part.{Part}
+use Rattle.part_table.specs.declared.Table.{Table}
+use Rattle.psv0.specs.Answers.{bytesOf, bytesBeside, sectionOf}
+use Rattle.psv0.specs.declared.ElementAnswer.{ElementAnswer}
+use Rattle.psv0.specs.declared.Field.{Field}
+use Rattle.psv0.specs.declared.Field.the-variants.{Set, Unset}
+use Rattle.psv0.specs.declared.InfoAnswer.{InfoAnswer}
+use Rattle.psv0.specs.declared.LengthsAnswer.{LengthsAnswer}
+use Rattle.psv0.specs.declared.Opening.{Opening}
+use Rattle.psv0.specs.declared.ResourceAnswer.{ResourceAnswer}
+use Rattle.psv0.specs.declared.Section.{Section}
+use Rattle.psv0.specs.declared.Section.the-variants.{RuntimeRecord, ResourceRecords, StringTable, IndexTable, ElementRecords, Masks}
+use Rattle.psv0.specs.declared.Span.{Span}
+use Rattle.psv0.specs.declared.View.{View}
+use Rattle.psv0.specs.declared.View.the-variants.{StageUnion, ElementString, ElementArray, EntryName, Mask}
+use Rattle.psv0_layout.specs.Handed.{handed}
+use Rattle.psv0_layout.specs.Shown.{Value, queried}
+use Rattle.psv0_writer.specs.declared.Written.{Written}
+use Rattle.qollqamir.specs.declared.CVerdict.{CVerdict}
+use Rattle.qollqamir.specs.declared.CField.{CField}
+use Rattle.qollqamir.specs.declared.CTable.{CTable}
+use Rattle.qollqamir.specs.declared.CPart.{CPart}
+use Rattle.qollqamir.specs.declared.COpening.{COpening}
+use Rattle.qollqamir.specs.declared.CInfo.{CInfo}
+use Rattle.qollqamir.specs.declared.CResource.{CResource}
+use Rattle.qollqamir.specs.declared.CElement.{CElement}
+use Rattle.qollqamir.specs.declared.CLengths.{CLengths}
+use Rattle.qollqamir.specs.declared.CSpan.{CSpan}
+use Rattle.qollqamir.specs.declared.CWritten.{CWritten}
+
+-- document 01's number and place of a verdict; 0 where it accepts
+abbrev pub cVerdict : Verdict → CVerdict
+cVerdict v = record { number = numberOf v; place = placeOf v }
+
+abbrev pub cField : Field → CField
+cField (Set n) = record { set = true; value = n }
+cField Unset = record { set = false; value = 0 }
+
+unfoldable pub cTable : Table → CTable
+cTable t =
+    record { verdict = cVerdict (t .verdict); count = t .count; names = t .names; offsets = t .offsets; sizes = t .sizes }
+
+unfoldable pub cPart : Part → CPart
+cPart p = record { verdict = cVerdict (p .verdict); number = p .number; offset = p .offset; size = p .size }
+
+unfoldable pub cOpening : ContainerOpening → COpening
+cOpening o =
+    record { verdict = cVerdict (o .verdict); parts = o .parts; «file_edition» = o .«file_edition»; «edition_read» = o .«edition_read» }
+
+unfoldable pub cPsvOpening : Opening → COpening
+cPsvOpening o =
+    record { verdict = cVerdict (o .verdict); parts = 0; «file_edition» = o .«file_edition»; «edition_read» = o .«edition_read» }
+
+unfoldable pub cInfo : InfoAnswer → CInfo
+cInfo a =
+    record {
+      verdict = cVerdict (a .verdict);
+      «minimum_wave_lanes» = cField (a .info .«minimum_wave_lanes»);
+      «maximum_wave_lanes» = cField (a .info .«maximum_wave_lanes»);
+      stage = cField (a .info .stage);
+      «uses_view_id» = cField (a .info .«uses_view_id»);
+      «max_vertex_count» = cField (a .info .«max_vertex_count»);
+      «patch_vectors» = cField (a .info .«patch_vectors»);
+      «mesh_topology» = cField (a .info .«mesh_topology»);
+      «input_elements» = cField (a .info .«input_elements»);
+      «output_elements» = cField (a .info .«output_elements»);
+      «patch_elements» = cField (a .info .«patch_elements»);
+      «input_vectors» = cField (a .info .«input_vectors»);
+      «output_vectors_0» = cField (a .info .«output_vectors_0»);
+      «output_vectors_1» = cField (a .info .«output_vectors_1»);
+      «output_vectors_2» = cField (a .info .«output_vectors_2»);
+      «output_vectors_3» = cField (a .info .«output_vectors_3»);
+      «threads_x» = cField (a .info .«threads_x»);
+      «threads_y» = cField (a .info .«threads_y»);
+      «threads_z» = cField (a .info .«threads_z»);
+      «entry_name_offset» = cField (a .info .«entry_name_offset»);
+    }
+
+unfoldable pub cResource : ResourceAnswer → CResource
+cResource a =
+    record {
+      verdict = cVerdict (a .verdict);
+      «binding_type» = cField (a .resource .«binding_type»);
+      space = cField (a .resource .space);
+      «lower_bound» = cField (a .resource .«lower_bound»);
+      «upper_bound» = cField (a .resource .«upper_bound»);
+      kind = cField (a .resource .kind);
+      flags = cField (a .resource .flags);
+    }
+
+unfoldable pub cElement : ElementAnswer → CElement
+cElement a =
+    record {
+      verdict = cVerdict (a .verdict);
+      «name_offset» = cField (a .element .«name_offset»);
+      «index_reference» = cField (a .element .«index_reference»);
+      rows = cField (a .element .rows);
+      «start_row» = cField (a .element .«start_row»);
+      columns = cField (a .element .columns);
+      «start_column» = cField (a .element .«start_column»);
+      allocated = cField (a .element .allocated);
+      «semantic_kind» = cField (a .element .«semantic_kind»);
+      «component_type» = cField (a .element .«component_type»);
+      interpolation = cField (a .element .interpolation);
+      «dynamic_mask» = cField (a .element .«dynamic_mask»);
+      stream = cField (a .element .stream);
+      reserved = cField (a .element .reserved);
+    }
+
+unfoldable pub cLengths : LengthsAnswer → CLengths
+cLengths a =
+    record {
+      verdict = cVerdict (a .verdict);
+      resources = cField (a .lengths .resources);
+      strings = cField (a .lengths .strings);
+      indices = cField (a .lengths .indices);
+      elements = cField (a .lengths .elements);
+    }
+
+unfoldable pub cSpan : Span → CSpan
+cSpan s = record { verdict = cVerdict (s .verdict); start = s .start; len = s .len }
+
+unfoldable pub cWritten : Written → CWritten
+cWritten w = record { verdict = cVerdict (w .verdict); len = w .len }
+
+unfoldable pub cAssembly : Assembly → CWritten
+cAssembly w = record { verdict = cVerdict (w .verdict); len = w .len }
+
+-- a span shows the bytes l of d under the verdict v: it lies inside, and a refusal has start and length 0. Where l is empty the start is
+-- left free
+pub record CShows (d : List ℕ) (v : Verdict) (l : List ℕ) (s : CSpan) : Type 0 where
+  pub verdict : s .verdict ≡ cVerdict v
+  pub inside : s .start + s .len ≤ length d
+  pub bytes : take (s .len) (drop (s .start) d) ≡ l
+  pub refused : (n p : ℕ) → v ≡ Refused n p → (s .start ≡ 0) × (s .len ≡ 0)
+
+-- the view that a kind and a number name: 0 the stage union, 1 an element's string, 2 an element's index array, 3 the entry name, 4 a
+-- mask; any other kind is a mask that isn't there
+abbrev pub viewOf : ℕ → ℕ → View
+viewOf kind n =
+    choose (eqb kind 0) StageUnion
+    (choose (eqb kind 1) (ElementString n)
+    (choose (eqb kind 2) (ElementArray n) (choose (eqb kind 3) EntryName (choose (eqb kind 4) (Mask n) (Mask 11)))))
+
+-- the section that a number names
+abbrev pub sectionNumbered : ℕ → Section
+sectionNumbered s =
+    choose (eqb s 0) RuntimeRecord
+    (choose (eqb s 1) ResourceRecords
+    (choose (eqb s 2) StringTable (choose (eqb s 3) IndexTable (choose (eqb s 4) ElementRecords Masks))))
+
+-- what the section numbered s is answered with, o being what opening gives and x a value that is unset: 26 where s is above 5
+unfoldable pub sectionVerdict : ℕ → Verdict → Value → Verdict
+sectionVerdict s o x = choose (ltb s 6) o (queried o x)
+
+unfoldable pub sectionShown : ℕ → Verdict → ℕ → List ℕ → Value → List ℕ
+sectionShown s o er d x = choose (ltb s 6) (bytesBeside o (handed er d (sectionOf (sectionNumbered s)))) (bytesOf x)

@@ -1,0 +1,634 @@
+// The library for programs in C and Rust: every public call, with plain structs for its answers. A view crosses as where it starts and its
+// length. Beside a refusal every number is 0 and no field is set. include/qollqamir.h documents each call.
+use assembler::Assembly;
+use container::ContainerOpening;
+use part_table::Part;
+use part_table::Table;
+use psv0::ElementAnswer;
+use psv0::Field;
+use psv0::InfoAnswer;
+use psv0::LengthsAnswer;
+use psv0::Opening;
+use psv0::ResourceAnswer;
+use psv0::Section;
+use psv0::Span;
+use psv0::View;
+use psv0_writer::Written;
+use wire::Verdict;
+ghost use mathlib.Core.Path.{_≡_};
+ghost use lib.ListN.{length};
+ghost use Rattle.assembler.specs.Answer as assembly;
+ghost use Rattle.constants.specs.Edition.{fileEdition};
+ghost use Rattle.constants.specs.Name.{isKnown};
+ghost use Rattle.container.specs.Opened.{containerOpeningOf};
+ghost use Rattle.container_layout.specs.Container.{psvOf, containerJudged, containerAnswered, containerPart};
+ghost use Rattle.part_table.specs.Lookup.{partOf};
+ghost use Rattle.part_table.specs.Table.{tableOf};
+ghost use Rattle.psv0.specs.Answers.{openingOf, infoAnswerOf, resourceAnswerOf, elementAnswerOf, lengthsAnswerOf, questionOf, bytesOf, bytesBeside};
+ghost use Rattle.psv0_layout.specs.Judged.{opened};
+ghost use Rattle.psv0_layout.specs.Layout.{editionRead, defaultEdition};
+ghost use Rattle.psv0_layout.specs.Shown.{answered, queried};
+ghost use Rattle.psv0_writer.specs.Answer as writing;
+ghost use Rattle.wire.specs.Number.{u32At};
+ghost use Rattle.qollqamir.specs.Boundary.{cVerdict, cField, cTable, cPart, cOpening, cPsvOpening, cInfo, cResource, cElement, cLengths, cSpan, cWritten, cAssembly, viewOf, sectionNumbered, sectionVerdict, sectionShown, CShows};
+
+// A verdict: the refusal's number, 0 where the call accepts, and its place.
+#[repr(C)]
+pub struct CVerdict {
+    pub number: u8,
+    pub place: usize,
+}
+
+// A value: whether it is set, and its number, 0 where it is not.
+#[repr(C)]
+pub struct CField {
+    pub set: bool,
+    pub value: u32,
+}
+
+// A part table.
+#[repr(C)]
+pub struct CTable {
+    pub verdict: CVerdict,
+    pub count: usize,
+    pub names: [u32; 96],
+    pub offsets: [u32; 96],
+    pub sizes: [u32; 96],
+}
+
+// A part: its number, where its header starts and its data size.
+#[repr(C)]
+pub struct CPart {
+    pub verdict: CVerdict,
+    pub number: usize,
+    pub offset: usize,
+    pub size: usize,
+}
+
+// An opening: the number of parts, the file's edition and the edition read.
+#[repr(C)]
+pub struct COpening {
+    pub verdict: CVerdict,
+    pub parts: usize,
+    pub file_edition: usize,
+    pub edition_read: usize,
+}
+
+// The fields of the runtime record.
+#[repr(C)]
+pub struct CInfo {
+    pub verdict: CVerdict,
+    pub minimum_wave_lanes: CField,
+    pub maximum_wave_lanes: CField,
+    pub stage: CField,
+    pub uses_view_id: CField,
+    pub max_vertex_count: CField,
+    pub patch_vectors: CField,
+    pub mesh_topology: CField,
+    pub input_elements: CField,
+    pub output_elements: CField,
+    pub patch_elements: CField,
+    pub input_vectors: CField,
+    pub output_vectors_0: CField,
+    pub output_vectors_1: CField,
+    pub output_vectors_2: CField,
+    pub output_vectors_3: CField,
+    pub threads_x: CField,
+    pub threads_y: CField,
+    pub threads_z: CField,
+    pub entry_name_offset: CField,
+}
+
+// A resource binding's record.
+#[repr(C)]
+pub struct CResource {
+    pub verdict: CVerdict,
+    pub binding_type: CField,
+    pub space: CField,
+    pub lower_bound: CField,
+    pub upper_bound: CField,
+    pub kind: CField,
+    pub flags: CField,
+}
+
+// A signature element's record.
+#[repr(C)]
+pub struct CElement {
+    pub verdict: CVerdict,
+    pub name_offset: CField,
+    pub index_reference: CField,
+    pub rows: CField,
+    pub start_row: CField,
+    pub columns: CField,
+    pub start_column: CField,
+    pub allocated: CField,
+    pub semantic_kind: CField,
+    pub component_type: CField,
+    pub interpolation: CField,
+    pub dynamic_mask: CField,
+    pub stream: CField,
+    pub reserved: CField,
+}
+
+// The lists' lengths.
+#[repr(C)]
+pub struct CLengths {
+    pub verdict: CVerdict,
+    pub resources: CField,
+    pub strings: CField,
+    pub indices: CField,
+    pub elements: CField,
+}
+
+// A stretch of the caller's bytes.
+#[repr(C)]
+pub struct CSpan {
+    pub verdict: CVerdict,
+    pub start: usize,
+    pub len: usize,
+}
+
+// What a writer did: the length of its result.
+#[repr(C)]
+pub struct CWritten {
+    pub verdict: CVerdict,
+    pub len: usize,
+}
+
+fn c_verdict(v: Verdict) -> CVerdict
+    ensures { λ r. ⌜ r ≡ cVerdict v ⌝ }
+{
+    match v {
+        Verdict::Accepted => CVerdict {
+            number: 0,
+            place: 0,
+        },
+        Verdict::Refused(number, place) => CVerdict { number, place },
+    }
+}
+
+fn c_field(f: Field) -> CField
+    ensures { λ r. ⌜ r ≡ cField f ⌝ }
+{
+    match f {
+        Field::Set(value) => CField { set: true, value },
+        Field::Unset => CField {
+            set: false,
+            value: 0,
+        },
+    }
+}
+
+fn c_info(a: InfoAnswer) -> CInfo
+    ensures { λ r. ⌜ r ≡ cInfo a ⌝ }
+{
+    let v = a.verdict;
+    let x = a.info;
+    let minimum_wave_lanes = x.minimum_wave_lanes;
+    let maximum_wave_lanes = x.maximum_wave_lanes;
+    let stage = x.stage;
+    let uses_view_id = x.uses_view_id;
+    let max_vertex_count = x.max_vertex_count;
+    let patch_vectors = x.patch_vectors;
+    let mesh_topology = x.mesh_topology;
+    let input_elements = x.input_elements;
+    let output_elements = x.output_elements;
+    let patch_elements = x.patch_elements;
+    let input_vectors = x.input_vectors;
+    let output_vectors_0 = x.output_vectors_0;
+    let output_vectors_1 = x.output_vectors_1;
+    let output_vectors_2 = x.output_vectors_2;
+    let output_vectors_3 = x.output_vectors_3;
+    let threads_x = x.threads_x;
+    let threads_y = x.threads_y;
+    let threads_z = x.threads_z;
+    let entry_name_offset = x.entry_name_offset;
+    CInfo {
+        verdict: c_verdict(v),
+        minimum_wave_lanes: c_field(minimum_wave_lanes),
+        maximum_wave_lanes: c_field(maximum_wave_lanes),
+        stage: c_field(stage),
+        uses_view_id: c_field(uses_view_id),
+        max_vertex_count: c_field(max_vertex_count),
+        patch_vectors: c_field(patch_vectors),
+        mesh_topology: c_field(mesh_topology),
+        input_elements: c_field(input_elements),
+        output_elements: c_field(output_elements),
+        patch_elements: c_field(patch_elements),
+        input_vectors: c_field(input_vectors),
+        output_vectors_0: c_field(output_vectors_0),
+        output_vectors_1: c_field(output_vectors_1),
+        output_vectors_2: c_field(output_vectors_2),
+        output_vectors_3: c_field(output_vectors_3),
+        threads_x: c_field(threads_x),
+        threads_y: c_field(threads_y),
+        threads_z: c_field(threads_z),
+        entry_name_offset: c_field(entry_name_offset),
+    }
+}
+
+fn c_resource(a: ResourceAnswer) -> CResource
+    ensures { λ r. ⌜ r ≡ cResource a ⌝ }
+{
+    let v = a.verdict;
+    let x = a.resource;
+    let binding_type = x.binding_type;
+    let space = x.space;
+    let lower_bound = x.lower_bound;
+    let upper_bound = x.upper_bound;
+    let kind = x.kind;
+    let flags = x.flags;
+    CResource {
+        verdict: c_verdict(v),
+        binding_type: c_field(binding_type),
+        space: c_field(space),
+        lower_bound: c_field(lower_bound),
+        upper_bound: c_field(upper_bound),
+        kind: c_field(kind),
+        flags: c_field(flags),
+    }
+}
+
+fn c_element(a: ElementAnswer) -> CElement
+    ensures { λ r. ⌜ r ≡ cElement a ⌝ }
+{
+    let v = a.verdict;
+    let x = a.element;
+    let name_offset = x.name_offset;
+    let index_reference = x.index_reference;
+    let rows = x.rows;
+    let start_row = x.start_row;
+    let columns = x.columns;
+    let start_column = x.start_column;
+    let allocated = x.allocated;
+    let semantic_kind = x.semantic_kind;
+    let component_type = x.component_type;
+    let interpolation = x.interpolation;
+    let dynamic_mask = x.dynamic_mask;
+    let stream = x.stream;
+    let reserved = x.reserved;
+    CElement {
+        verdict: c_verdict(v),
+        name_offset: c_field(name_offset),
+        index_reference: c_field(index_reference),
+        rows: c_field(rows),
+        start_row: c_field(start_row),
+        columns: c_field(columns),
+        start_column: c_field(start_column),
+        allocated: c_field(allocated),
+        semantic_kind: c_field(semantic_kind),
+        component_type: c_field(component_type),
+        interpolation: c_field(interpolation),
+        dynamic_mask: c_field(dynamic_mask),
+        stream: c_field(stream),
+        reserved: c_field(reserved),
+    }
+}
+
+fn c_lengths(a: LengthsAnswer) -> CLengths
+    ensures { λ r. ⌜ r ≡ cLengths a ⌝ }
+{
+    let v = a.verdict;
+    let x = a.lengths;
+    let resources = x.resources;
+    let strings = x.strings;
+    let indices = x.indices;
+    let elements = x.elements;
+    CLengths {
+        verdict: c_verdict(v),
+        resources: c_field(resources),
+        strings: c_field(strings),
+        indices: c_field(indices),
+        elements: c_field(elements),
+    }
+}
+
+fn c_table(t: Table) -> CTable
+    ensures { λ r. ⌜ r ≡ cTable t ⌝ }
+{
+    let v = t.verdict;
+    let names = t.names;
+    let offsets = t.offsets;
+    let sizes = t.sizes;
+    CTable {
+        verdict: c_verdict(v),
+        count: t.count,
+        names,
+        offsets,
+        sizes,
+    }
+}
+
+fn c_part(p: Part) -> CPart
+    ensures { λ r. ⌜ r ≡ cPart p ⌝ }
+{
+    let v = p.verdict;
+    CPart {
+        verdict: c_verdict(v),
+        number: p.number,
+        offset: p.offset,
+        size: p.size,
+    }
+}
+
+fn c_opening(o: ContainerOpening) -> COpening
+    ensures { λ r. ⌜ r ≡ cOpening o ⌝ }
+{
+    let v = o.verdict;
+    COpening {
+        verdict: c_verdict(v),
+        parts: o.parts,
+        file_edition: o.file_edition,
+        edition_read: o.edition_read,
+    }
+}
+
+fn c_psv_opening(o: Opening) -> COpening
+    ensures { λ r. ⌜ r ≡ cPsvOpening o ⌝ }
+{
+    let v = o.verdict;
+    COpening {
+        verdict: c_verdict(v),
+        parts: 0,
+        file_edition: o.file_edition,
+        edition_read: o.edition_read,
+    }
+}
+
+fn c_span(s: Span) -> CSpan
+    ensures { λ r. ⌜ r ≡ cSpan s ⌝ }
+{
+    let v = s.verdict;
+    CSpan {
+        verdict: c_verdict(v),
+        start: s.start,
+        len: s.len,
+    }
+}
+
+fn c_written(w: Written) -> CWritten
+    ensures { λ r. ⌜ r ≡ cWritten w ⌝ }
+{
+    let v = w.verdict;
+    CWritten {
+        verdict: c_verdict(v),
+        len: w.len,
+    }
+}
+
+fn c_assembly(w: Assembly) -> CWritten
+    ensures { λ r. ⌜ r ≡ cAssembly w ⌝ }
+{
+    let v = w.verdict;
+    CWritten {
+        verdict: c_verdict(v),
+        len: w.len,
+    }
+}
+
+// A view by its kind and number: 0 the stage union, 1 an element's string, 2 an element's index array, 3 the entry name, 4 a mask. Any
+// other kind is a mask that isn't there.
+fn view_of(kind: u32, number: usize) -> View
+    ensures { λ r. ⌜ r ≡ viewOf kind number ⌝ }
+{
+    if kind == 0 {
+        return View::StageUnion;
+    }
+    if kind == 1 {
+        return View::ElementString(number);
+    }
+    if kind == 2 {
+        return View::ElementArray(number);
+    }
+    if kind == 3 {
+        return View::EntryName;
+    }
+    if kind == 4 {
+        return View::Mask(number);
+    }
+    View::Mask(11)
+}
+
+// A section by its number; any above 4 is the masks.
+fn section_of(section: u32) -> Section
+    ensures { λ r. ⌜ r ≡ sectionNumbered section ⌝ }
+{
+    if section == 0 {
+        return Section::RuntimeRecord;
+    }
+    if section == 1 {
+        return Section::ResourceRecords;
+    }
+    if section == 2 {
+        return Section::StringTable;
+    }
+    if section == 3 {
+        return Section::IndexTable;
+    }
+    if section == 4 {
+        return Section::ElementRecords;
+    }
+    Section::Masks
+}
+
+// The part table, 1 to 9.
+#[no_mangle]
+pub extern "C" fn qollqamir_table(b: &[u8]) -> CTable
+    ensures { λ r. ⌜ r ≡ cTable (tableOf (now (b .entry))) ⌝ }
+{
+    c_table(part_table::read(b))
+}
+
+// A part by its name, from the table alone: 1 to 9, then 26.
+#[no_mangle]
+pub extern "C" fn qollqamir_table_part(b: &[u8], name: &[u8; 4]) -> CPart
+    ensures { λ r. ⌜ r ≡ cPart (partOf (now (b .entry)) (u32At (now (name .entry)) 0)) ⌝ }
+{
+    c_part(part_table::find_part(b, name))
+}
+
+// Whether a name is one of the 24 that are known.
+#[no_mangle]
+pub extern "C" fn qollqamir_known(name: &[u8; 4]) -> bool
+    ensures { λ r. ⌜ r ≡ isKnown (u32At (now (name .entry)) 0) ⌝ }
+{
+    part_table::known(name)
+}
+
+// Opens a container at an edition.
+#[no_mangle]
+pub extern "C" fn qollqamir_open(b: &[u8], edition: usize) -> COpening
+    ensures { λ r. ⌜ r ≡ cOpening (containerOpeningOf edition (now (b .entry))) ⌝ }
+{
+    c_opening(container::open(b, edition))
+}
+
+// Opens a container at the edition that is read where none is named.
+#[no_mangle]
+pub extern "C" fn qollqamir_open_default(b: &[u8]) -> COpening
+    ensures { λ r. ⌜ r ≡ cOpening (containerOpeningOf defaultEdition (now (b .entry))) ⌝ }
+{
+    c_opening(container::open_default(b))
+}
+
+// A part by its name, of a container that opens at an edition.
+#[no_mangle]
+pub extern "C" fn qollqamir_part(b: &[u8], edition: usize, name: &[u8; 4]) -> CPart
+    ensures { λ r. ⌜ r ≡ cPart (containerPart edition (now (b .entry)) (u32At (now (name .entry)) 0)) ⌝ }
+{
+    c_part(container::part(b, edition, name))
+}
+
+// The fields of the runtime record.
+#[no_mangle]
+pub extern "C" fn qollqamir_runtime_info(b: &[u8], edition: usize) -> CInfo
+    ensures { λ r. ⌜ r ≡ cInfo (infoAnswerOf (containerJudged edition (now (b .entry))) (containerAnswered edition (now (b .entry)))) ⌝ }
+{
+    c_info(container::runtime_info(b, edition))
+}
+
+// Resource record i.
+#[no_mangle]
+pub extern "C" fn qollqamir_resource(b: &[u8], edition: usize, i: usize) -> CResource
+    ensures { λ r. ⌜ r ≡ cResource (resourceAnswerOf (containerJudged edition (now (b .entry))) (containerAnswered edition (now (b .entry))) i) ⌝ }
+{
+    c_resource(container::resource(b, edition, i))
+}
+
+// Element record i, over all lists.
+#[no_mangle]
+pub extern "C" fn qollqamir_element(b: &[u8], edition: usize, i: usize) -> CElement
+    ensures { λ r. ⌜ r ≡ cElement (elementAnswerOf (containerJudged edition (now (b .entry))) (containerAnswered edition (now (b .entry))) i) ⌝ }
+{
+    c_element(container::element(b, edition, i))
+}
+
+// The lists' lengths.
+#[no_mangle]
+pub extern "C" fn qollqamir_lengths(b: &[u8], edition: usize) -> CLengths
+    ensures { λ r. ⌜ r ≡ cLengths (lengthsAnswerOf (containerJudged edition (now (b .entry))) (containerAnswered edition (now (b .entry)))) ⌝ }
+{
+    c_lengths(container::lengths(b, edition))
+}
+
+// A view by its kind and number.
+#[no_mangle]
+pub extern "C" fn qollqamir_view(b: &[u8], edition: usize, kind: u32, number: usize) -> CSpan
+    ensures { λ r. ⌜ CShows (now (b .entry)) (queried (containerJudged edition (now (b .entry))) (containerAnswered edition (now (b .entry)) (questionOf (viewOf kind number)))) (bytesOf (containerAnswered edition (now (b .entry)) (questionOf (viewOf kind number)))) r ⌝ }
+{
+    c_span(container::view_span(b, edition, view_of(kind, number)))
+}
+
+// The bytes of a section for writing again: 0 the runtime record, 1 resources, 2 strings, 3 indices, 4 elements, 5 masks; any other
+// is one that isn't there.
+#[no_mangle]
+pub extern "C" fn qollqamir_section(b: &[u8], edition: usize, section: u32) -> CSpan
+    ensures { λ r. ⌜ CShows (now (b .entry)) (sectionVerdict section (containerJudged edition (now (b .entry))) (containerAnswered edition (now (b .entry)) (questionOf (viewOf 5 0)))) (sectionShown section (containerJudged edition (now (b .entry))) (editionRead edition (psvOf (now (b .entry)))) (psvOf (now (b .entry))) (containerAnswered edition (now (b .entry)) (questionOf (viewOf 5 0)))) r ⌝ }
+{
+    if 5 < section {
+        return c_span(container::view_span(b, edition, View::Mask(11)));
+    }
+    c_span(container::section_span(b, edition, section_of(section)))
+}
+
+// Opens PSV0 data alone at an edition; it has no parts.
+#[no_mangle]
+pub extern "C" fn qollqamir_psv0_open(d: &[u8], edition: usize) -> COpening
+    ensures { λ r. ⌜ r ≡ cPsvOpening (openingOf (opened edition (now (d .entry))) (fileEdition (u32At (now (d .entry)) 0)) (editionRead edition (now (d .entry)))) ⌝ }
+{
+    c_psv_opening(psv0::open(d, edition))
+}
+
+// The fields of the runtime record, of PSV0 data alone.
+#[no_mangle]
+pub extern "C" fn qollqamir_psv0_runtime_info(d: &[u8], edition: usize) -> CInfo
+    ensures { λ r. ⌜ r ≡ cInfo (infoAnswerOf (opened edition (now (d .entry))) (answered edition (now (d .entry)))) ⌝ }
+{
+    c_info(psv0::runtime_info(d, edition))
+}
+
+// Resource record i, of PSV0 data alone.
+#[no_mangle]
+pub extern "C" fn qollqamir_psv0_resource(d: &[u8], edition: usize, i: usize) -> CResource
+    ensures { λ r. ⌜ r ≡ cResource (resourceAnswerOf (opened edition (now (d .entry))) (answered edition (now (d .entry))) i) ⌝ }
+{
+    c_resource(psv0::resource(d, edition, i))
+}
+
+// Element record i, over all lists, of PSV0 data alone.
+#[no_mangle]
+pub extern "C" fn qollqamir_psv0_element(d: &[u8], edition: usize, i: usize) -> CElement
+    ensures { λ r. ⌜ r ≡ cElement (elementAnswerOf (opened edition (now (d .entry))) (answered edition (now (d .entry))) i) ⌝ }
+{
+    c_element(psv0::element(d, edition, i))
+}
+
+// The lists' lengths, of PSV0 data alone.
+#[no_mangle]
+pub extern "C" fn qollqamir_psv0_lengths(d: &[u8], edition: usize) -> CLengths
+    ensures { λ r. ⌜ r ≡ cLengths (lengthsAnswerOf (opened edition (now (d .entry))) (answered edition (now (d .entry)))) ⌝ }
+{
+    c_lengths(psv0::lengths(d, edition))
+}
+
+// A view by its kind and number, of PSV0 data alone.
+#[no_mangle]
+pub extern "C" fn qollqamir_psv0_view(d: &[u8], edition: usize, kind: u32, number: usize) -> CSpan
+    ensures { λ r. ⌜ CShows (now (d .entry)) (queried (opened edition (now (d .entry))) (answered edition (now (d .entry)) (questionOf (viewOf kind number)))) (bytesOf (answered edition (now (d .entry)) (questionOf (viewOf kind number)))) r ⌝ }
+{
+    c_span(psv0::view_span(d, edition, view_of(kind, number)))
+}
+
+// The bytes of a section for writing again, of PSV0 data alone: 0 the runtime record, 1 resources, 2 strings, 3 indices, 4 elements, 5 masks; any other
+// is one that isn't there.
+#[no_mangle]
+pub extern "C" fn qollqamir_psv0_section(d: &[u8], edition: usize, section: u32) -> CSpan
+    ensures { λ r. ⌜ CShows (now (d .entry)) (sectionVerdict section (opened edition (now (d .entry))) (answered edition (now (d .entry)) (questionOf (viewOf 5 0)))) (sectionShown section (opened edition (now (d .entry))) (editionRead edition (now (d .entry))) (now (d .entry)) (answered edition (now (d .entry)) (questionOf (viewOf 5 0)))) r ⌝ }
+{
+    if 5 < section {
+        return c_span(psv0::view_span(d, edition, View::Mask(11)));
+    }
+    c_span(psv0::section_span(d, edition, section_of(section)))
+}
+
+// Writes PSV0 data.
+#[no_mangle]
+pub extern "C" fn qollqamir_write_psv0(
+    edition: usize,
+    runtime: &[u8],
+    resources: &[u8],
+    strings: &[u8],
+    indices: &[u8],
+    elements: &[u8],
+    masks: &[u8],
+    out: &mut [u8],
+) -> CWritten
+    ensures { λ r. ⌜ r ≡ cWritten (writing.answer edition (writing.given (now (runtime .entry)) (now (resources .entry)) (now (strings .entry)) (now (indices .entry)) (now (elements .entry)) (now (masks .entry))) (length (now (out .entry)))) ⌝ }
+    ensures { λ r. ⌜ now (out .exit) ≡ writing.output edition (writing.given (now (runtime .entry)) (now (resources .entry)) (now (strings .entry)) (now (indices .entry)) (now (elements .entry)) (now (masks .entry))) (now (out .entry)) ⌝ }
+{
+    c_written(psv0_writer::write(
+        edition,
+        runtime,
+        resources,
+        strings,
+        indices,
+        elements,
+        masks,
+        out,
+    ))
+}
+
+// Assembles a container.
+#[no_mangle]
+pub extern "C" fn qollqamir_assemble(
+    names: &[u8],
+    sizes: &[u32],
+    data: &[u8],
+    digest: &[u8],
+    out: &mut [u8],
+) -> CWritten
+    ensures { λ r. ⌜ r ≡ cAssembly (assembly.answer (assembly.given (now (names .entry)) (now (sizes .entry)) (now («data» .entry)) (now (digest .entry))) (length (now (out .entry)))) ⌝ }
+    ensures { λ r. ⌜ now (out .exit) ≡ assembly.output (assembly.given (now (names .entry)) (now (sizes .entry)) (now («data» .entry)) (now (digest .entry))) (now (out .entry)) ⌝ }
+{
+    c_assembly(assembler::assemble(names, sizes, data, digest, out))
+}

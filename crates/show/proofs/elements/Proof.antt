@@ -1,0 +1,26 @@
+use borrow.Author.Needs.{needs}
+use Prim.Native.Nat.{_≤_, _-_}
+use Rattle.show.proofs.elements.Statement.{statement}
+use Rattle.show.proofs.elements.Tie as tie
+
+abbrev Inv-loop : tie.InvT-loop
+Inv-loop b edition n i₀ i = i ≤ n
+
+abbrev μ-loop : tie.MeasureT-loop
+μ-loop b edition n i₀ i = n - i
+
+pub elements-spec : {M : Type 1} → statement M
+elements-spec =
+    tie.close
+    (tie.spec
+    Inv-loop
+    μ-loop
+    (λ c. search needs)
+    (λ c κs. search needs)
+    (λ c κs. search needs)
+    (λ c. search needs)
+    (λ c κs. search needs)
+    (λ c. search needs)
+    (λ c. search needs)
+    (λ c. search needs)
+    (λ c. search needs))

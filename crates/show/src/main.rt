@@ -1,0 +1,414 @@
+// show EDITION FILE: prints all that an opening of a container of at most 65,536 bytes and its queries show, one item a line.
+use printing::number;
+use printing::text;
+use psv0::Field;
+use psv0::RuntimeInfo;
+use psv0::View;
+use wire::Verdict;
+
+// ---- bytes and values
+
+fn digit(n: u8) -> u8 {
+    let d = n % 16;
+    if d < 10 {
+        return b'0' + d;
+    }
+    b'a' + (d - 10)
+}
+
+// A byte as two lower-case hex digits.
+fn hex(b: u8) {
+    let two = [digit(b / 16), digit(b)];
+    text(&two);
+}
+
+fn hex_bytes(s: &[u8]) {
+    let mut i = 0;
+    while i < s.len() {
+        hex(s[i]);
+        i += 1;
+    }
+}
+
+// A byte of a string: as it is where it prints, else in hex.
+fn string_byte(b: u8) {
+    if b < 32 || 126 < b || b == b'"' || b == b'\\' {
+        text(b"\\x");
+        hex(b);
+        return;
+    }
+    let one = [b];
+    text(&one);
+}
+
+fn string_bytes(s: &[u8]) {
+    let mut i = 0;
+    while i < s.len() {
+        string_byte(s[i]);
+        i += 1;
+    }
+}
+
+fn value(f: Field) {
+    match f {
+        Field::Set(n) => number(n as usize),
+        Field::Unset => text(b"unset"),
+    }
+}
+
+// A name and a value on a line of their own.
+fn item(name: &[u8], f: Field) {
+    text(name);
+    text(b" ");
+    value(f);
+    text(b"\n");
+}
+
+// A name and a value further on in a line.
+fn pair(name: &[u8], f: Field) {
+    text(b" ");
+    text(name);
+    text(b" ");
+    value(f);
+}
+
+// Whether a view is set.
+fn shown(b: &[u8], edition: usize, view: View) -> bool {
+    let s = container::view_span(b, edition, view);
+    let v = s.verdict;
+    match v {
+        Verdict::Accepted => true,
+        Verdict::Refused(_, _) => false,
+    }
+}
+
+fn string(b: &[u8], edition: usize, view: View) {
+    if shown(b, edition, view) {
+        text(b"\"");
+        string_bytes(container::view_bytes(b, edition, view));
+        text(b"\"");
+    } else {
+        text(b"unset");
+    }
+}
+
+// ---- the part table
+
+fn part(i: usize, x: u32, offset: u32, size: u32) {
+    text(b"part ");
+    number(i);
+    text(b" ");
+    printing::part(x, offset, size);
+}
+
+fn parts(b: &[u8]) {
+    let t = part_table::read(b);
+    let n = t.count;
+    text(b"parts ");
+    number(n);
+    text(b"\n");
+    let mut i = 0;
+    while i < 96 {
+        if i < n {
+            part(i, t.names[i], t.offsets[i], t.sizes[i]);
+        }
+        i += 1;
+    }
+}
+
+// ---- the runtime record
+
+fn stage(r: RuntimeInfo) {
+    let minimum = r.minimum_wave_lanes;
+    item(b"minimum_wave_lanes", minimum);
+    let maximum = r.maximum_wave_lanes;
+    item(b"maximum_wave_lanes", maximum);
+    let kind = r.stage;
+    item(b"stage", kind);
+    let uses = r.uses_view_id;
+    item(b"uses_view_id", uses);
+    let vertices = r.max_vertex_count;
+    item(b"max_vertex_count", vertices);
+    let patch = r.patch_vectors;
+    item(b"patch_vectors", patch);
+    let topology = r.mesh_topology;
+    item(b"mesh_topology", topology);
+}
+
+fn signatures(r: RuntimeInfo) {
+    let input = r.input_elements;
+    item(b"input_elements", input);
+    let output = r.output_elements;
+    item(b"output_elements", output);
+    let patch = r.patch_elements;
+    item(b"patch_elements", patch);
+    let u = r.input_vectors;
+    item(b"input_vectors", u);
+    let v0 = r.output_vectors_0;
+    item(b"output_vectors_0", v0);
+    let v1 = r.output_vectors_1;
+    item(b"output_vectors_1", v1);
+    let v2 = r.output_vectors_2;
+    item(b"output_vectors_2", v2);
+    let v3 = r.output_vectors_3;
+    item(b"output_vectors_3", v3);
+}
+
+fn entry(r: RuntimeInfo) {
+    let x = r.threads_x;
+    item(b"threads_x", x);
+    let y = r.threads_y;
+    item(b"threads_y", y);
+    let z = r.threads_z;
+    item(b"threads_z", z);
+    let name = r.entry_name_offset;
+    item(b"entry_name_offset", name);
+}
+
+fn runtime(b: &[u8], edition: usize) {
+    text(b"stage_info ");
+    hex_bytes(container::view_bytes(b, edition, View::StageUnion));
+    text(b"\n");
+    let a = container::runtime_info(b, edition);
+    let r = a.info;
+    stage(r);
+    signatures(r);
+    entry(r);
+    text(b"entry_name ");
+    string(b, edition, View::EntryName);
+    text(b"\n");
+}
+
+// ---- resources, elements and masks
+
+// How many records a list has: none where its length is unset.
+fn count(f: Field) -> usize {
+    match f {
+        Field::Set(n) => n as usize,
+        Field::Unset => 0,
+    }
+}
+
+fn resource(b: &[u8], edition: usize, i: usize) {
+    let a = container::resource(b, edition, i);
+    let r = a.resource;
+    text(b"resource ");
+    number(i);
+    let kind = r.binding_type;
+    pair(b"type", kind);
+    let space = r.space;
+    pair(b"space", space);
+    let lower = r.lower_bound;
+    pair(b"lower", lower);
+    let upper = r.upper_bound;
+    pair(b"upper", upper);
+    let resource_kind = r.kind;
+    pair(b"kind", resource_kind);
+    let flags = r.flags;
+    pair(b"flags", flags);
+    text(b"\n");
+}
+
+fn resources(b: &[u8], edition: usize, f: Field) {
+    item(b"resources", f);
+    let n = count(f);
+    let mut i = 0;
+    while i < n {
+        resource(b, edition, i);
+        i += 1;
+    }
+}
+
+// An index array: its numbers in brackets.
+fn array(x: &[u8]) {
+    text(b"[");
+    let n = x.len() / 4;
+    let mut i = 0;
+    while i < n {
+        if 0 < i {
+            text(b" ");
+        }
+        number(wire::u32_at(x, i * 4) as usize);
+        i += 1;
+    }
+    text(b"]");
+}
+
+fn element(b: &[u8], edition: usize, i: usize) {
+    text(b"element ");
+    number(i);
+    text(b" name ");
+    string(b, edition, View::ElementString(i));
+    text(b" indices ");
+    array(container::view_bytes(b, edition, View::ElementArray(i)));
+    let a = container::element(b, edition, i);
+    let e = a.element;
+    let name = e.name_offset;
+    pair(b"name_offset", name);
+    let index = e.index_reference;
+    pair(b"index_reference", index);
+    let rows = e.rows;
+    pair(b"rows", rows);
+    let start_row = e.start_row;
+    pair(b"start_row", start_row);
+    let columns = e.columns;
+    pair(b"columns", columns);
+    let start_column = e.start_column;
+    pair(b"start_column", start_column);
+    let allocated = e.allocated;
+    pair(b"allocated", allocated);
+    let semantic = e.semantic_kind;
+    pair(b"semantic", semantic);
+    let component = e.component_type;
+    pair(b"component", component);
+    let interpolation = e.interpolation;
+    pair(b"interpolation", interpolation);
+    let dynamic = e.dynamic_mask;
+    pair(b"dynamic_mask", dynamic);
+    let stream = e.stream;
+    pair(b"stream", stream);
+    let reserved = e.reserved;
+    pair(b"reserved", reserved);
+    text(b"\n");
+}
+
+fn elements(b: &[u8], edition: usize, f: Field) {
+    item(b"elements", f);
+    let n = count(f);
+    let mut i = 0;
+    while i < n {
+        element(b, edition, i);
+        i += 1;
+    }
+}
+
+fn mask_words(w: &[u8]) {
+    if w.len() == 0 {
+        text(b"empty");
+    } else {
+        hex_bytes(w);
+    }
+}
+
+fn mask(b: &[u8], edition: usize, m: usize) {
+    text(b"mask ");
+    number(m);
+    text(b" ");
+    if shown(b, edition, View::Mask(m)) {
+        mask_words(container::view_bytes(b, edition, View::Mask(m)));
+    } else {
+        text(b"unset");
+    }
+    text(b"\n");
+}
+
+fn masks(b: &[u8], edition: usize) {
+    let mut m = 0;
+    while m < 11 {
+        mask(b, edition, m);
+        m += 1;
+    }
+}
+
+// ---- the program
+
+fn dump(b: &[u8], edition: usize) {
+    parts(b);
+    runtime(b, edition);
+    let a = container::lengths(b, edition);
+    let l = a.lengths;
+    let r = l.resources;
+    resources(b, edition, r);
+    let t = l.strings;
+    item(b"strings", t);
+    let n = l.indices;
+    item(b"indices", n);
+    let e = l.elements;
+    elements(b, edition, e);
+    masks(b, edition);
+}
+
+fn show(b: &[u8], edition: usize) {
+    let o = container::open(b, edition);
+    let v = o.verdict;
+    match v {
+        Verdict::Refused(n, p) => printing::refusal(n, p),
+        Verdict::Accepted => {
+            text(b"edition ");
+            number(o.file_edition);
+            text(b" read ");
+            number(o.edition_read);
+            text(b"\n");
+            dump(b, edition);
+        }
+    }
+}
+
+// An edition as it is written: digits alone. Any above 3 counts as 4; what is no number is 5.
+fn edition_named(s: &[u8]) -> usize {
+    if s.len() == 0 {
+        return 5;
+    }
+    let mut e: usize = 0;
+    let mut i = 0;
+    while i < s.len() {
+        let c = s[i];
+        if c < b'0' {
+            return 5;
+        }
+        if b'9' < c {
+            return 5;
+        }
+        e = e * 10 + (c - b'0') as usize;
+        if 4 < e {
+            e = 4;
+        }
+        i += 1;
+    }
+    e
+}
+
+fn show_file(path: &[u8], edition: usize) {
+    let fd = os::open_read(path);
+    if fd < 0 {
+        text(b"cannot open\n");
+        return;
+    }
+    let mut buffer = io::large_buffer();
+    let got = io::read_full(fd, &mut buffer);
+    // One read more tells the end from a byte too many, and from what opens and cannot be read, as a directory.
+    let mut more = [0u8; 1];
+    let extra = libc::read(fd, &mut more);
+    libc::close(fd);
+    if extra < 0 {
+        text(b"cannot open\n");
+        return;
+    }
+    if 0 < extra {
+        text(b"too long\n");
+        return;
+    }
+    show(&buffer[..got], edition);
+}
+
+fn usage() {
+    text(b"usage: show EDITION FILE\n");
+}
+
+fn main() {
+    // The program's own name counts as an argument.
+    if os::arg_count() != 3 {
+        usage();
+        return;
+    }
+    let mut word = io::buffer();
+    let w = os::arg(1, &mut word);
+    let edition = edition_named(&word[..w]);
+    if 4 < edition {
+        usage();
+        return;
+    }
+    let mut path = io::buffer();
+    let n = os::arg(2, &mut path);
+    show_file(&path[..n], edition);
+}

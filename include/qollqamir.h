@@ -1,0 +1,204 @@
+/* Qollqamir: a reader and writer of DirectX shader containers.
+
+   Every call takes any bytes and answers. Its answer begins with a verdict: number 0 where the call accepts, else a refusal number of
+   document 01 with its place. Beside a refusal every number is 0, no field is set, and a span has start and length 0.
+   A pointer to bytes is read only, is followed by its length, and may be null where the length is 0 only if the caller's platform allows
+   reading no bytes from it; pass a pointer to any object to be safe. Buffers that are written ("out") must not overlap the others.
+   An edition is 0 to 3; any other gives refusal 25. */
+#ifndef QOLLQAMIR_H
+#define QOLLQAMIR_H
+
+#include <stdbool.h>
+#include <stddef.h>
+#include <stdint.h>
+
+#ifdef __cplusplus
+extern "C" {
+#endif
+
+/* A verdict: the refusal's number, 0 where the call accepts, and its place. */
+typedef struct {
+    uint8_t number;
+    size_t place;
+} qollqamir_verdict;
+
+/* A value: whether it is set, and its number, 0 where it is not. */
+typedef struct {
+    bool set;
+    uint32_t value;
+} qollqamir_field;
+
+/* A part table. Entries from count on are 0. A name is its four bytes as one little-endian number; an offset is that of the part's
+   header, whose data start 8 bytes later. */
+typedef struct {
+    qollqamir_verdict verdict;
+    size_t count;
+    uint32_t names[96];
+    uint32_t offsets[96];
+    uint32_t sizes[96];
+} qollqamir_parts;
+
+/* A part: its number, the offset of its header (its data start 8 bytes later) and its data size. */
+typedef struct {
+    qollqamir_verdict verdict;
+    size_t number;
+    size_t offset;
+    size_t size;
+} qollqamir_found;
+
+/* An opening: the number of parts (0 for PSV0 data alone), the file's edition and the edition read. */
+typedef struct {
+    qollqamir_verdict verdict;
+    size_t parts;
+    size_t file_edition;
+    size_t edition_read;
+} qollqamir_opening;
+
+/* The fields of the runtime record; the stage union is view 0. */
+typedef struct {
+    qollqamir_verdict verdict;
+    qollqamir_field minimum_wave_lanes;
+    qollqamir_field maximum_wave_lanes;
+    qollqamir_field stage;
+    qollqamir_field uses_view_id;
+    qollqamir_field max_vertex_count;
+    qollqamir_field patch_vectors;
+    qollqamir_field mesh_topology;
+    qollqamir_field input_elements;
+    qollqamir_field output_elements;
+    qollqamir_field patch_elements;
+    qollqamir_field input_vectors;
+    qollqamir_field output_vectors_0;
+    qollqamir_field output_vectors_1;
+    qollqamir_field output_vectors_2;
+    qollqamir_field output_vectors_3;
+    qollqamir_field threads_x;
+    qollqamir_field threads_y;
+    qollqamir_field threads_z;
+    qollqamir_field entry_name_offset;
+} qollqamir_info;
+
+/* A resource binding's record. */
+typedef struct {
+    qollqamir_verdict verdict;
+    qollqamir_field binding_type;
+    qollqamir_field space;
+    qollqamir_field lower_bound;
+    qollqamir_field upper_bound;
+    qollqamir_field kind;
+    qollqamir_field flags;
+} qollqamir_resource_record;
+
+/* A signature element's record. */
+typedef struct {
+    qollqamir_verdict verdict;
+    qollqamir_field name_offset;
+    qollqamir_field index_reference;
+    qollqamir_field rows;
+    qollqamir_field start_row;
+    qollqamir_field columns;
+    qollqamir_field start_column;
+    qollqamir_field allocated;
+    qollqamir_field semantic_kind;
+    qollqamir_field component_type;
+    qollqamir_field interpolation;
+    qollqamir_field dynamic_mask;
+    qollqamir_field stream;
+    qollqamir_field reserved;
+} qollqamir_element_record;
+
+/* The lists' lengths: R, T in bytes, N and E. */
+typedef struct {
+    qollqamir_verdict verdict;
+    qollqamir_field resources;
+    qollqamir_field strings;
+    qollqamir_field indices;
+    qollqamir_field elements;
+} qollqamir_list_lengths;
+
+/* A stretch of the bytes that were handed in. */
+typedef struct {
+    qollqamir_verdict verdict;
+    size_t start;
+    size_t len;
+} qollqamir_span;
+
+/* What a writer did: the length of its result, 0 beside a refusal. */
+typedef struct {
+    qollqamir_verdict verdict;
+    size_t len;
+} qollqamir_written;
+
+/* Kinds of view; number is the element's or the mask's (0 to 10) and is not looked at for the others. Any other kind gives 26. */
+enum {
+    QOLLQAMIR_STAGE_UNION = 0,
+    QOLLQAMIR_ELEMENT_STRING = 1,
+    QOLLQAMIR_ELEMENT_ARRAY = 2,
+    QOLLQAMIR_ENTRY_NAME = 3,
+    QOLLQAMIR_MASK = 4
+};
+
+/* Sections whose bytes are handed out for writing again. Any other number gives 26. */
+enum {
+    QOLLQAMIR_RUNTIME_RECORD = 0,
+    QOLLQAMIR_RESOURCE_RECORDS = 1,
+    QOLLQAMIR_STRING_TABLE = 2,
+    QOLLQAMIR_INDEX_TABLE = 3,
+    QOLLQAMIR_ELEMENT_RECORDS = 4,
+    QOLLQAMIR_MASKS = 5
+};
+
+/* The part table alone: 1 to 9. */
+qollqamir_parts qollqamir_table(const uint8_t *bytes, size_t len);
+
+/* A part by its name, from the part table alone: 1 to 9, then 26. name points to four bytes. */
+qollqamir_found qollqamir_table_part(const uint8_t *bytes, size_t len, const uint8_t *name);
+
+/* Whether a name, four bytes, is one of the 24 that are known. */
+bool qollqamir_known(const uint8_t *name);
+
+/* Opens a container at an edition: 25, 1 to 9, 10, 11, 12 to 24. */
+qollqamir_opening qollqamir_open(const uint8_t *bytes, size_t len, size_t edition);
+
+/* The same at the edition that is read where none is named, 1. */
+qollqamir_opening qollqamir_open_default(const uint8_t *bytes, size_t len);
+
+/* Queries on a container's bytes at an edition. Each gives what qollqamir_open gives, then 26 where what is asked for isn't there or is
+   unset. Spans are stretches of the container. */
+qollqamir_found qollqamir_part(const uint8_t *bytes, size_t len, size_t edition, const uint8_t *name);
+qollqamir_info qollqamir_runtime_info(const uint8_t *bytes, size_t len, size_t edition);
+qollqamir_resource_record qollqamir_resource(const uint8_t *bytes, size_t len, size_t edition, size_t i);
+qollqamir_element_record qollqamir_element(const uint8_t *bytes, size_t len, size_t edition, size_t i);
+qollqamir_list_lengths qollqamir_lengths(const uint8_t *bytes, size_t len, size_t edition);
+qollqamir_span qollqamir_view(const uint8_t *bytes, size_t len, size_t edition, uint32_t kind, size_t number);
+
+/* The bytes of a section for writing again; empty, and accepted, for a section that is unset. */
+qollqamir_span qollqamir_section(const uint8_t *bytes, size_t len, size_t edition, uint32_t section);
+
+/* The same on PSV0 data alone: 25, 2, 12 to 24, then 26. Spans are stretches of the PSV0 data. */
+qollqamir_opening qollqamir_psv0_open(const uint8_t *data, size_t len, size_t edition);
+qollqamir_info qollqamir_psv0_runtime_info(const uint8_t *data, size_t len, size_t edition);
+qollqamir_resource_record qollqamir_psv0_resource(const uint8_t *data, size_t len, size_t edition, size_t i);
+qollqamir_element_record qollqamir_psv0_element(const uint8_t *data, size_t len, size_t edition, size_t i);
+qollqamir_list_lengths qollqamir_psv0_lengths(const uint8_t *data, size_t len, size_t edition);
+qollqamir_span qollqamir_psv0_view(const uint8_t *data, size_t len, size_t edition, uint32_t kind, size_t number);
+qollqamir_span qollqamir_psv0_section(const uint8_t *data, size_t len, size_t edition, uint32_t section);
+
+/* Writes PSV0 data in plain form: 25; 27; 2; 15 to 24 as reader 3 would answer; 28. On a refusal out keeps every byte; bytes past the
+   result keep their contents. */
+qollqamir_written qollqamir_write_psv0(size_t edition, const uint8_t *runtime, size_t runtime_len, const uint8_t *resources,
+                                       size_t resources_len, const uint8_t *strings, size_t strings_len, const uint8_t *indices,
+                                       size_t indices_len, const uint8_t *elements, size_t elements_len, const uint8_t *masks,
+                                       size_t masks_len, uint8_t *out, size_t out_len);
+
+/* Assembles a container: 27, 6, 9, 2, 28. names has four bytes a part, sizes one number a part, data the parts' data end to end, digest
+   16 bytes. On a refusal out keeps every byte; bytes past the result keep their contents. */
+qollqamir_written qollqamir_assemble(const uint8_t *names, size_t names_len, const uint32_t *sizes, size_t sizes_len,
+                                     const uint8_t *data, size_t data_len, const uint8_t *digest, size_t digest_len, uint8_t *out,
+                                     size_t out_len);
+
+#ifdef __cplusplus
+}
+#endif
+
+#endif

@@ -1,0 +1,88 @@
+//! A reader and writer of DirectX containers and their PSV0 part, written
+//! from documents 000, 001 and 01 alone. It is a second opinion: every rule
+//! stands here as directly as it can be said, so that another reader can be
+//! held against it.
+//!
+//! * [`table`] reads the part table (refusals 1 to 9).
+//! * [`open`] opens a whole container, [`open_psv0`] PSV0 data alone; both give
+//!   an [`Opening`], whose methods are the queries (refusal 26).
+//! * [`write_psv0`] and [`assemble`] write, and [`plain`] says whether PSV0 data
+//!   has the form in which the writer would write it.
+//! * [`show`] prints all that an opening shows.
+
+#![forbid(unsafe_code)]
+// Sizes are judged with the words of the papers: `% 4`, `(v + 7) / 8`.
+#![allow(clippy::manual_div_ceil, clippy::manual_is_multiple_of)]
+
+mod psv0;
+mod show;
+mod table;
+mod write;
+
+pub use psv0::{
+    open, open_default, open_psv0, open_psv0_default, Element, Handed, Layout, Opening, Resource,
+    Runtime,
+};
+pub use show::show;
+pub use table::{find, known, table, table_part, Part, KNOWN};
+pub use write::{assemble, plain, write_psv0};
+
+/// The greatest length of a container, and of PSV0 data read or written alone.
+pub const LONGEST: usize = 16_777_216;
+
+/// The greatest number of parts a container lists.
+pub const MOST_PARTS: usize = 96;
+
+/// The size of the runtime record in each edition.
+pub const EDITION_SIZES: [usize; 4] = [24, 36, 48, 52];
+
+/// The newest edition a reader or the writer can be asked for.
+pub const NEWEST: usize = EDITION_SIZES.len() - 1;
+
+/// The edition of an opening that names none.
+pub const DEFAULT_EDITION: usize = 1;
+
+/// The number of masks; they are numbered from 0.
+pub const MASKS: usize = 11;
+
+/// The smallest size a resource or element record may state.
+pub(crate) const LEAST_RECORD: usize = 16;
+
+/// A resource record from this size on has a kind and flags.
+pub(crate) const LONG_RESOURCE: usize = 24;
+
+/// The answer to bytes, queries or sections that break a rule: the number in
+/// the table of refusals, and the place (a part or an element, otherwise 0).
+#[derive(Clone, Copy, Debug, PartialEq, Eq, Hash)]
+pub struct Refusal {
+    pub number: u8,
+    pub place: usize,
+}
+
+impl std::fmt::Display for Refusal {
+    fn fmt(&self, f: &mut std::fmt::Formatter<'_>) -> std::fmt::Result {
+        write!(f, "refused {} {}", self.number, self.place)
+    }
+}
+
+impl std::error::Error for Refusal {}
+
+/// A refusal whose place is 0.
+pub(crate) fn refusal(number: u8) -> Refusal {
+    Refusal { number, place: 0 }
+}
+
+/// A refusal at a part or element.
+pub(crate) fn refusal_at(number: u8, place: usize) -> Refusal {
+    Refusal { number, place }
+}
+
+/// The two-byte number at `at`, which must lie inside.
+pub(crate) fn number2(bytes: &[u8], at: usize) -> u32 {
+    u32::from(u16::from_le_bytes([bytes[at], bytes[at + 1]]))
+}
+
+/// The four-byte number at `at`, which must lie inside.
+pub(crate) fn number4(bytes: &[u8], at: usize) -> u32 {
+    u32::from_le_bytes([bytes[at], bytes[at + 1], bytes[at + 2], bytes[at + 3]])
+}

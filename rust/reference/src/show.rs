@@ -1,0 +1,154 @@
+//! All that an opening and its queries show, one item a line.
+
+use crate::{known, open, Opening};
+use std::fmt::Write;
+
+/// The lines for a container at an edition; every line ends with a line feed.
+pub fn show(bytes: &[u8], edition: usize) -> String {
+    match open(bytes, edition) {
+        Err(refusal) => format!("{refusal}\n"),
+        Ok(opening) => {
+            let mut text = String::new();
+            lines(&opening, &mut text).expect("a string takes all that is written to it");
+            text
+        }
+    }
+}
+
+fn lines(opening: &Opening, text: &mut String) -> std::fmt::Result {
+    writeln!(text, "edition {} read {}", opening.file_edition, opening.edition_read)?;
+    writeln!(text, "parts {}", opening.parts.len())?;
+    for (i, part) in opening.parts.iter().enumerate() {
+        let mark = if known(part.name) { "known" } else { "unknown" };
+        writeln!(text, "part {i} {} {} {} {mark}", name(part.name), part.offset, part.size)?;
+    }
+
+    let runtime = &opening.runtime;
+    writeln!(text, "stage_info {}", hex(&runtime.stage_info))?;
+    let fields = [
+        ("minimum_wave_lanes", runtime.minimum_wave_lanes),
+        ("maximum_wave_lanes", runtime.maximum_wave_lanes),
+        ("stage", runtime.stage),
+        ("uses_view_id", runtime.uses_view_id),
+        ("max_vertex_count", runtime.max_vertex_count),
+        ("patch_vectors", runtime.patch_vectors),
+        ("mesh_topology", runtime.mesh_topology),
+        ("input_elements", runtime.input_elements),
+        ("output_elements", runtime.output_elements),
+        ("patch_elements", runtime.patch_elements),
+        ("input_vectors", runtime.input_vectors),
+        ("output_vectors_0", runtime.output_vectors[0]),
+        ("output_vectors_1", runtime.output_vectors[1]),
+        ("output_vectors_2", runtime.output_vectors[2]),
+        ("output_vectors_3", runtime.output_vectors[3]),
+        ("threads_x", runtime.threads[0]),
+        ("threads_y", runtime.threads[1]),
+        ("threads_z", runtime.threads[2]),
+        ("entry_name_offset", runtime.entry_name_offset),
+    ];
+    for (field, number) in fields {
+        writeln!(text, "{field} {}", value(number))?;
+    }
+    match opening.entry_name() {
+        Ok(string) => writeln!(text, "entry_name {}", quoted(string))?,
+        Err(_) => writeln!(text, "entry_name unset")?,
+    }
+
+    writeln!(text, "resources {}", opening.resource_count())?;
+    for i in 0..opening.resource_count() {
+        let r = opening.resource(i).expect("every record below the count is there");
+        writeln!(
+            text,
+            "resource {i} type {} space {} lower {} upper {} kind {} flags {}",
+            r.resource_type,
+            r.space,
+            r.lower,
+            r.upper,
+            value(r.kind),
+            value(r.flags),
+        )?;
+    }
+
+    writeln!(text, "strings {}", value(opening.string_length()))?;
+    writeln!(text, "indices {}", value(opening.index_count()))?;
+    writeln!(text, "elements {}", value(opening.element_count()))?;
+    for i in 0..opening.element_count().unwrap_or(0) {
+        let e = opening.element(i).expect("every element below the count is there");
+        let string = opening.string(i).expect("its name was judged good");
+        let array = opening.array(i).expect("its array was judged good");
+        let numbers: Vec<String> = array.iter().map(u32::to_string).collect();
+        write!(text, "element {i} name {} indices [{}]", quoted(string), numbers.join(" "))?;
+        let fields = [
+            ("name_offset", e.name_offset),
+            ("index_reference", e.index_reference),
+            ("rows", e.rows),
+            ("start_row", e.start_row),
+            ("columns", e.columns),
+            ("start_column", e.start_column),
+            ("allocated", e.allocated),
+            ("semantic", e.semantic),
+            ("component", e.component),
+            ("interpolation", e.interpolation),
+            ("dynamic_mask", e.dynamic_mask),
+            ("stream", e.stream),
+            ("reserved", e.reserved),
+        ];
+        for (field, number) in fields {
+            write!(text, " {field} {number}")?;
+        }
+        writeln!(text)?;
+    }
+
+    for number in 0..crate::MASKS {
+        let words = match opening.mask(number) {
+            Err(_) => String::from("unset"),
+            Ok([]) => String::from("empty"),
+            Ok(bytes) => hex(bytes),
+        };
+        writeln!(text, "mask {number} {words}")?;
+    }
+    Ok(())
+}
+
+/// A number, or `unset`.
+fn value<T: std::fmt::Display>(number: Option<T>) -> String {
+    match number {
+        Some(number) => number.to_string(),
+        None => String::from("unset"),
+    }
+}
+
+/// A part's name; bytes outside 33 to 126 as `?`.
+fn name(bytes: [u8; 4]) -> String {
+    bytes
+        .iter()
+        .map(|byte| if (33..=126).contains(byte) { char::from(*byte) } else { '?' })
+        .collect()
+}
+
+/// Two lower-case hex digits a byte.
+fn hex(bytes: &[u8]) -> String {
+    let mut text = String::with_capacity(2 * bytes.len());
+    for byte in bytes {
+        for digit in [byte >> 4, byte & 15] {
+            text.push(char::from(b"0123456789abcdef"[usize::from(digit)]));
+        }
+    }
+    text
+}
+
+/// A string in double quotes; bytes 32 to 126 but `"` and `\` as they are, any
+/// other as `\x` and its two digits.
+fn quoted(bytes: &[u8]) -> String {
+    let mut text = String::with_capacity(bytes.len() + 2);
+    text.push('"');
+    for byte in bytes {
+        match byte {
+            b'"' | b'\\' => text.push_str(&format!("\\x{byte:02x}")),
+            32..=126 => text.push(char::from(*byte)),
+            _ => text.push_str(&format!("\\x{byte:02x}")),
+        }
+    }
+    text.push('"');
+    text
+}

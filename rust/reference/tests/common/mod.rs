@@ -1,0 +1,189 @@
+//! Builders for containers and PSV0 data, right and wrong, and a small
+//! generator of repeatable numbers.
+#![allow(dead_code)]
+
+use reference::Refusal;
+
+/// A refusal as the tests write it.
+pub fn refused<T>(number: u8, place: usize) -> Result<T, Refusal> {
+    Err(Refusal { number, place })
+}
+
+/// Only the refusal of an answer, for comparing answers whose values can't be.
+pub fn answer<T>(result: Result<T, Refusal>) -> Result<(), Refusal> {
+    result.map(|_| ())
+}
+
+pub fn put4(bytes: &mut [u8], at: usize, number: u32) {
+    bytes[at..at + 4].copy_from_slice(&number.to_le_bytes());
+}
+
+pub fn words(numbers: &[u32]) -> Vec<u8> {
+    numbers.iter().flat_map(|number| number.to_le_bytes()).collect()
+}
+
+/// A container with its parts one after another, nothing between them.
+pub fn container(parts: &[(&[u8; 4], &[u8])]) -> Vec<u8> {
+    let mut offset = 32 + 4 * parts.len();
+    let mut offsets = Vec::new();
+    let mut body = Vec::new();
+    for (name, data) in parts {
+        offsets.push(offset as u32);
+        body.extend_from_slice(*name);
+        body.extend_from_slice(&(data.len() as u32).to_le_bytes());
+        body.extend_from_slice(data);
+        offset += 8 + data.len();
+    }
+    let mut bytes = Vec::new();
+    bytes.extend_from_slice(b"DXBC");
+    bytes.extend_from_slice(&[0xd1; 16]);
+    bytes.extend_from_slice(&[1, 0, 0, 0]);
+    bytes.extend_from_slice(&(offset as u32).to_le_bytes());
+    bytes.extend_from_slice(&(parts.len() as u32).to_le_bytes());
+    bytes.extend_from_slice(&words(&offsets));
+    bytes.extend_from_slice(&body);
+    assert_eq!(bytes.len(), offset);
+    bytes
+}
+
+/// A DXIL part of four bytes and the PSV0 data.
+pub fn shader(psv0: &[u8]) -> Vec<u8> {
+    container(&[(b"DXIL", b"code"), (b"PSV0", psv0)])
+}
+
+/// PSV0 data in pieces. Sections 3 to 6 are written when the runtime record
+/// has them, that is from 36 bytes on.
+#[derive(Clone, Debug, Default)]
+pub struct Psv0 {
+    pub runtime: Vec<u8>,
+    pub resource_size: u32,
+    pub resources: Vec<u8>,
+    pub strings: Vec<u8>,
+    pub indices: Vec<u32>,
+    pub element_size: u32,
+    pub elements: Vec<u8>,
+    pub masks: Vec<u8>,
+    pub after: Vec<u8>,
+}
+
+impl Psv0 {
+    /// All zeros but the sizes of records.
+    pub fn of_size(size: usize) -> Psv0 {
+        Psv0 { runtime: vec![0; size], resource_size: 24, element_size: 16, ..Psv0::default() }
+    }
+
+    pub fn bytes(&self) -> Vec<u8> {
+        let mut bytes = words(&[self.runtime.len() as u32]);
+        bytes.extend_from_slice(&self.runtime);
+        let count = self.resources.len() / self.resource_size as usize;
+        bytes.extend_from_slice(&words(&[count as u32]));
+        if count > 0 {
+            bytes.extend_from_slice(&words(&[self.resource_size]));
+            bytes.extend_from_slice(&self.resources);
+        }
+        if self.runtime.len() >= 36 {
+            bytes.extend_from_slice(&words(&[self.strings.len() as u32]));
+            bytes.extend_from_slice(&self.strings);
+            bytes.extend_from_slice(&words(&[self.indices.len() as u32]));
+            bytes.extend_from_slice(&words(&self.indices));
+            if !self.elements.is_empty() {
+                bytes.extend_from_slice(&words(&[self.element_size]));
+                bytes.extend_from_slice(&self.elements);
+            }
+            bytes.extend_from_slice(&self.masks);
+        }
+        bytes.extend_from_slice(&self.after);
+        bytes
+    }
+
+    /// Where the string table's length stands.
+    pub fn strings_at(&self) -> usize {
+        let resources = if self.resources.is_empty() { 0 } else { 4 + self.resources.len() };
+        4 + self.runtime.len() + 4 + resources
+    }
+
+    /// Where the index table's count stands.
+    pub fn indices_at(&self) -> usize {
+        self.strings_at() + 4 + self.strings.len()
+    }
+
+    /// Where the elements' record size stands, or else the masks.
+    pub fn elements_at(&self) -> usize {
+        self.indices_at() + 4 + 4 * self.indices.len()
+    }
+}
+
+/// The box M: PSV0 data of edition 0 without resources.
+pub fn box_m() -> Psv0 {
+    Psv0::of_size(24)
+}
+
+/// The box C: a compute shader of edition 3 with an entry name.
+pub fn box_c() -> Psv0 {
+    let mut psv0 = Psv0::of_size(52);
+    psv0.runtime[24] = 5;
+    psv0.runtime[48] = 1;
+    psv0.strings = b"\0main\0\0\0".to_vec();
+    psv0
+}
+
+/// An element record of 16 bytes.
+pub fn element(name: u32, indices: u32, bytes: [u8; 8]) -> Vec<u8> {
+    let mut record = words(&[name, indices]);
+    record.extend_from_slice(&bytes);
+    record
+}
+
+/// A hull shader of edition 3 that has something in every section: resources
+/// of 24 bytes, three elements, masks 0, 4, 5 and 9. In plain form.
+pub fn hull() -> Psv0 {
+    let mut psv0 = Psv0::of_size(52);
+    for at in 0..16 {
+        psv0.runtime[at] = 0xa0 + at as u8;
+    }
+    put4(&mut psv0.runtime, 16, 4);
+    put4(&mut psv0.runtime, 20, 0xffff_ffff);
+    // Stage 3, view id, p = 9 and a byte that only a mesh shader has; one
+    // element of each list; u = 3; v0 = 9.
+    psv0.runtime[24..36].copy_from_slice(&[3, 1, 9, 0x77, 1, 1, 1, 3, 9, 0, 0, 0]);
+    put4(&mut psv0.runtime, 36, 64);
+    put4(&mut psv0.runtime, 48, 1);
+    psv0.resources = words(&[1, 2, 3, 4, 5, 6, 10, 20, 30, 40, 50, 60]);
+    psv0.strings = b"\0main\0POS\0B\0\0".to_vec();
+    psv0.strings.resize(16, 0);
+    psv0.indices = vec![2, 7, 8, 0, 1, 9];
+    psv0.elements = element(6, 0, [1, 2, 0xe3, 4, 5, 6, 0xff, 7]);
+    psv0.elements.extend(element(10, 3, [0, 0, 0x14, 0, 0, 0, 0x21, 0]));
+    psv0.elements.extend(element(0, 4, [255; 8]));
+    // w(9) = 2 words for masks 0 and 4, 2 * 3 * 4 = 24 for masks 5 and 9.
+    psv0.masks = (0..4 * (2 + 2 + 24 + 24)).map(|i| i as u8).collect();
+    psv0
+}
+
+/// Repeatable numbers (xorshift with a multiplication at the end).
+pub struct Random(pub u64);
+
+impl Random {
+    pub fn next(&mut self) -> u64 {
+        self.0 ^= self.0 >> 12;
+        self.0 ^= self.0 << 25;
+        self.0 ^= self.0 >> 27;
+        self.0.wrapping_mul(0x2545_f491_4f6c_dd1d)
+    }
+
+    pub fn below(&mut self, bound: usize) -> usize {
+        (self.next() >> 16) as usize % bound
+    }
+
+    pub fn one_in(&mut self, bound: usize) -> bool {
+        self.below(bound) == 0
+    }
+
+    pub fn bytes(&mut self, count: usize) -> Vec<u8> {
+        (0..count).map(|_| self.below(256) as u8).collect()
+    }
+
+    pub fn pick<T: Copy>(&mut self, from: &[T]) -> T {
+        from[self.below(from.len())]
+    }
+}

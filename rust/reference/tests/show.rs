@@ -1,0 +1,222 @@
+//! The lines of `show`, and the program around them.
+
+mod common;
+use common::*;
+use reference::show;
+use std::path::PathBuf;
+use std::process::Command;
+
+const UNSET_MASKS: &str = "mask 0 unset
+mask 1 unset
+mask 2 unset
+mask 3 unset
+mask 4 unset
+mask 5 unset
+mask 6 unset
+mask 7 unset
+mask 8 unset
+mask 9 unset
+mask 10 unset
+";
+
+#[test]
+fn edition_zero() {
+    let expected = format!(
+        "edition 0 read 0
+parts 2
+part 0 DXIL 40 4 known
+part 1 PSV0 52 32 known
+stage_info 00000000000000000000000000000000
+minimum_wave_lanes 0
+maximum_wave_lanes 0
+stage unset
+uses_view_id unset
+max_vertex_count unset
+patch_vectors unset
+mesh_topology unset
+input_elements unset
+output_elements unset
+patch_elements unset
+input_vectors unset
+output_vectors_0 unset
+output_vectors_1 unset
+output_vectors_2 unset
+output_vectors_3 unset
+threads_x unset
+threads_y unset
+threads_z unset
+entry_name_offset unset
+entry_name unset
+resources 0
+strings unset
+indices unset
+elements unset
+{UNSET_MASKS}"
+    );
+    for edition in 0..=3 {
+        assert_eq!(show(&shader(&box_m().bytes()), edition), expected);
+    }
+}
+
+#[test]
+fn everything() {
+    let data = hull().bytes();
+    let bytes = container(&[(b"\x20\x7f!~", b""), (b"DXIL", b"c"), (b"PSV0", &data)]);
+    let mask = |from: usize, words: usize| -> String {
+        hull().masks[from..from + 4 * words].iter().map(|byte| format!("{byte:02x}")).collect()
+    };
+    let expected = format!(
+        "edition 3 read 3
+parts 3
+part 0 ??!~ 44 0 unknown
+part 1 DXIL 52 1 known
+part 2 PSV0 61 {} known
+stage_info a0a1a2a3a4a5a6a7a8a9aaabacadaeaf
+minimum_wave_lanes 4
+maximum_wave_lanes 4294967295
+stage 3
+uses_view_id 1
+max_vertex_count unset
+patch_vectors 9
+mesh_topology unset
+input_elements 1
+output_elements 1
+patch_elements 1
+input_vectors 3
+output_vectors_0 9
+output_vectors_1 0
+output_vectors_2 0
+output_vectors_3 0
+threads_x unset
+threads_y unset
+threads_z unset
+entry_name_offset 1
+entry_name \"main\"
+resources 2
+resource 0 type 1 space 2 lower 3 upper 4 kind 5 flags 6
+resource 1 type 10 space 20 lower 30 upper 40 kind 50 flags 60
+strings 16
+indices 6
+elements 3
+element 0 name \"POS\" indices [7 8] name_offset 6 index_reference 0 rows 1 start_row 2 columns 3 \
+start_column 2 allocated 1 semantic 4 component 5 interpolation 6 dynamic_mask 15 stream 3 reserved 7
+element 1 name \"B\" indices [] name_offset 10 index_reference 3 rows 0 start_row 0 columns 4 \
+start_column 1 allocated 0 semantic 0 component 0 interpolation 0 dynamic_mask 1 stream 2 reserved 0
+element 2 name \"\" indices [9] name_offset 0 index_reference 4 rows 255 start_row 255 columns 15 \
+start_column 3 allocated 1 semantic 255 component 255 interpolation 255 dynamic_mask 15 stream 3 \
+reserved 255
+mask 0 {}
+mask 1 empty
+mask 2 empty
+mask 3 empty
+mask 4 {}
+mask 5 {}
+mask 6 empty
+mask 7 empty
+mask 8 empty
+mask 9 {}
+mask 10 empty
+",
+        data.len(),
+        mask(0, 2),
+        mask(8, 2),
+        mask(16, 24),
+        mask(112, 24),
+    );
+    assert_eq!(show(&bytes, 3), expected);
+    // Reader 1 differs in the entry name and the resources' later fields alone.
+    let first = expected
+        .replace("read 3", "read 1")
+        .replace("entry_name_offset 1", "entry_name_offset unset")
+        .replace("entry_name \"main\"", "entry_name unset")
+        .replace("kind 5 flags 6\n", "kind unset flags unset\n")
+        .replace("kind 50 flags 60\n", "kind unset flags unset\n");
+    assert_eq!(show(&bytes, 1), first);
+}
+
+#[test]
+fn strings_are_quoted() {
+    let mut psv0 = box_c();
+    psv0.strings = b" ~\"\\a\x1f\x7f\x80\xff\n\0\0".to_vec();
+    psv0.runtime[48] = 0;
+    let text = show(&shader(&psv0.bytes()), 3);
+    let line = text.lines().find(|line| line.starts_with("entry_name ")).unwrap();
+    assert_eq!(line, r#"entry_name " ~\x22\x5ca\x1f\x7f\x80\xff\x0a""#);
+}
+
+#[test]
+fn refusals_are_one_line() {
+    assert_eq!(show(&[], 1), "refused 1 0\n");
+    assert_eq!(show(&[], 4), "refused 25 0\n");
+    let mut bytes = shader(&box_m().bytes());
+    put4(&mut bytes, 36, 0);
+    assert_eq!(show(&bytes, 0), "refused 8 1\n");
+}
+
+/// A file of the given bytes, removed again at the end.
+struct Temporary(PathBuf);
+
+impl Temporary {
+    fn new(name: &str, bytes: &[u8]) -> Temporary {
+        let directory = PathBuf::from(env!("CARGO_TARGET_TMPDIR"));
+        let path = directory.join(format!("{name}-{}", std::process::id()));
+        std::fs::write(&path, bytes).unwrap();
+        Temporary(path)
+    }
+
+    fn path(&self) -> &str {
+        self.0.to_str().unwrap()
+    }
+}
+
+impl Drop for Temporary {
+    fn drop(&mut self) {
+        let _ = std::fs::remove_file(&self.0);
+    }
+}
+
+fn run(arguments: &[&str]) -> (String, i32) {
+    let program = env!("CARGO_BIN_EXE_reference-show");
+    let output = Command::new(program).args(arguments).output().unwrap();
+    assert!(output.stderr.is_empty());
+    (String::from_utf8(output.stdout).unwrap(), output.status.code().unwrap())
+}
+
+#[test]
+fn the_program() {
+    let bytes = shader(&hull().bytes());
+    let file = Temporary::new("hull", &bytes);
+    for edition in 0..=3 {
+        let printed = run(&[&edition.to_string(), file.path()]);
+        assert_eq!(printed, (show(&bytes, edition), 0));
+    }
+    assert_eq!(run(&["4", file.path()]), ("refused 25 0\n".into(), 0));
+    let vast = "99999999999999999999999999";
+    assert_eq!(run(&[vast, file.path()]), ("refused 25 0\n".into(), 0));
+    let usage = ("usage: show EDITION FILE\n".to_string(), 2);
+    assert_eq!(run(&[]), usage);
+    assert_eq!(run(&["3"]), usage);
+    assert_eq!(run(&["3", file.path(), "more"]), usage);
+    assert_eq!(run(&["three", file.path()]), usage);
+    assert_eq!(run(&["-1", file.path()]), usage);
+    assert_eq!(run(&["+1", file.path()]), usage);
+    assert_eq!(run(&["", file.path()]), usage);
+    let missing = format!("{}-missing", file.path());
+    assert_eq!(run(&["3", &missing]), ("cannot open\n".into(), 2));
+    assert_eq!(run(&["3", env!("CARGO_TARGET_TMPDIR")]), ("cannot open\n".into(), 2));
+}
+
+#[test]
+fn the_programs_limit() {
+    let mut bytes = shader(&box_m().bytes());
+    bytes.resize(65_536, 0);
+    put4(&mut bytes, 24, 65_536);
+    let file = Temporary::new("longest", &bytes);
+    assert_eq!(run(&["3", file.path()]), (show(&bytes, 3), 0));
+    assert!(show(&bytes, 3).starts_with("edition 0 read 0\n"));
+    bytes.push(0);
+    let file = Temporary::new("too-long", &bytes);
+    assert_eq!(run(&["3", file.path()]), ("too long\n".into(), 0));
+    let file = Temporary::new("empty", &[]);
+    assert_eq!(run(&["3", file.path()]), ("refused 1 0\n".into(), 0));
+}

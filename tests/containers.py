@@ -1,0 +1,68 @@
+"""Containers made for the programs' runs."""
+import struct
+
+
+def word(n):
+    return struct.pack("<I", n)
+
+
+def words(*numbers):
+    return b"".join(word(n) for n in numbers)
+
+
+def box(parts, magic=b"DXBC", version=(1, 0), size=None, count=None, offsets=None):
+    """A container of (name, data) pairs, one right after the other; fields can be set wrong."""
+    at = 32 + 4 * len(parts)
+    places, body = [], b""
+    for name, data in parts:
+        places.append(at)
+        body += name + word(len(data)) + data
+        at += 8 + len(data)
+    header = magic + bytes(16) + struct.pack("<HH", *version)
+    header += word(at if size is None else size) + word(len(parts) if count is None else count)
+    return header + words(*(offsets or places)) + body
+
+
+def psv0(size=52, stage=5, view=0, vectors=(0, 0, 0, 0), counts=(0, 0, 0), indices=b"", stride=16, elements=b"", name=1):
+    """PSV0 data with the strings of box C."""
+    record = bytearray(size)
+    record[24], record[25] = stage, view
+    record[28:31], record[32:36] = bytes(counts), bytes(vectors)
+    if size >= 52:
+        record[48:52] = word(name)
+    data = word(size) + bytes(record) + word(0) + word(8) + b"\0main\0\0\0" + word(len(indices) // 4) + indices
+    return data + (word(stride) + elements if sum(counts) else b"")
+
+
+PROGRAM = (b"DXIL", bytes([1, 2, 3, 4]))
+EDITION_0 = (b"PSV0", word(24) + bytes(24) + word(0))
+M = box([PROGRAM, EDITION_0])
+LONGEST = box([PROGRAM, EDITION_0, (b"PRIV", bytes(65432))])
+
+
+def with_psv0(data):
+    return box([PROGRAM, (b"PSV0", data)])
+
+
+def hull():
+    """A hull shader with something at every line of `show`: PSV0 data off every multiple of 4, records longer than the known ones,
+    strings with bytes that don't print, index arrays of 0, 1 and 3 numbers, view and input masks."""
+    stage, view, patch = 3, 1, 2
+    record = bytes(range(16)) + words(4, 0xFFFFFFFF) + bytes([stage, view, patch, 0, 2, 1, 1, 1, 9, 0, 0, 0]) + words(7, 8, 9, 20)
+    resources = words(2, 0, 0, 0, 13, 0, 99) + words(3, 1, 5, 0xFFFFFFFF, 2, 1, 99)
+    strings = b"\0A \"\\\x1f\x7f\xff~\0!TexCoord\0main\0"
+    strings += bytes(-len(strings) % 4)
+    indices = words(0, 1, 40, 3, 0, 1, 0xFFFFFFFF)
+    elements = b"".join(
+        words(name, index) + bytes(fields) + b"more"
+        for name, index, fields in [
+            (1, 0, [1, 0, 0x74, 0, 3, 2, 0x3F, 0]),
+            (10, 1, [1, 1, 0xC3, 16, 1, 8, 0x10, 7]),
+            (0, 3, [3, 2, 0x51, 3, 9, 0, 0x25, 255]),
+            (9, 0, [0, 255, 0x00, 25, 0, 1, 0x00, 0]),
+        ]
+    )
+    masks = words(0x12345678, 1) + words(3) + words(*range(8)) + words(*range(256, 260))
+    data = words(52) + record + words(2, 28) + resources + words(len(strings)) + strings
+    data += words(len(indices) // 4) + indices + words(20) + elements + masks + b"\xee"
+    return box([(b"SFI0", b"\1\2\3\4"), (b"DXIL", b"\5"), (b"PSV0", data), (b"!\x20\x7f\xff", b"")])
