@@ -1,0 +1,512 @@
+//! Every call of the library against the independent reader, answer by answer.
+
+use std::collections::BTreeSet;
+
+use qollqamir::raw;
+use reference::{Opening, Refusal};
+
+use crate::random::Random;
+
+/// A difference, and the bytes it was seen on.
+#[derive(Debug)]
+pub struct Mismatch {
+    pub what: String,
+    pub bytes: Vec<u8>,
+}
+
+pub type Check = Result<(), Mismatch>;
+
+/// Fails where two answers differ.
+macro_rules! same {
+    ($bytes:expr, $got:expr, $expected:expr, $($what:tt)+) => {{
+        let (got, expected) = (&$got, &$expected);
+        if got != expected {
+            return Err($crate::compare::Mismatch {
+                what: format!("{}: library {:?}, reference {:?}", format_args!($($what)+), got, expected),
+                bytes: $bytes.to_vec(),
+            });
+        }
+    }};
+}
+pub(crate) use same;
+
+/// The calls that are counted apart.
+#[derive(Clone, Copy)]
+pub enum Call {
+    Table,
+    Open,
+    Psv0,
+    Query,
+    Write,
+    Assemble,
+}
+
+pub const CALLS: [(&str, &[u8]); 6] = [
+    ("table", &[1, 2, 3, 4, 5, 6, 7, 8, 9]),
+    ("open", &[1, 2, 3, 4, 5, 6, 7, 8, 9, 10, 11, 12, 13, 14, 15, 16, 17, 18, 19, 20, 21, 22, 23, 24, 25]),
+    ("psv0", &[2, 12, 13, 14, 15, 16, 17, 18, 19, 20, 21, 22, 23, 24, 25]),
+    ("query", &[26]),
+    ("write", &[2, 15, 16, 17, 22, 23, 24, 25, 27, 28]),
+    ("assemble", &[2, 6, 9, 27, 28]),
+];
+
+/// How often each call gave each verdict (0: it accepted), and at which places.
+#[derive(Default)]
+pub struct Hits {
+    pub counts: [[u64; 29]; 6],
+    pub places: [[BTreeSet<usize>; 29]; 6],
+}
+
+impl Hits {
+    pub fn note(&mut self, call: Call, verdict: raw::Verdict) {
+        let number = usize::from(verdict.number);
+        self.counts[call as usize][number] += 1;
+        if [8, 9, 22, 23].contains(&number) {
+            self.places[call as usize][number].insert(verdict.place);
+        }
+    }
+}
+
+pub fn verdict_of<T>(answer: &Result<T, Refusal>) -> raw::Verdict {
+    match answer {
+        Ok(_) => raw::Verdict { number: 0, place: 0 },
+        Err(refusal) => raw::Verdict { number: refusal.number, place: refusal.place },
+    }
+}
+
+fn field(value: Option<u32>) -> raw::Field {
+    raw::Field { set: value.is_some(), value: value.unwrap_or(0) }
+}
+
+fn parts_of(answer: &Result<Vec<reference::Part>, Refusal>) -> raw::Parts {
+    let mut parts = raw::Parts { verdict: verdict_of(answer), count: 0, names: [0; 96], offsets: [0; 96], sizes: [0; 96] };
+    for part in answer.as_deref().unwrap_or(&[]) {
+        parts.names[parts.count] = u32::from_le_bytes(part.name);
+        parts.offsets[parts.count] = part.offset as u32;
+        parts.sizes[parts.count] = part.size as u32;
+        parts.count += 1;
+    }
+    parts
+}
+
+/// Where a view lies in the bytes.
+fn start_in(bytes: &[u8], view: &[u8]) -> usize {
+    view.as_ptr() as usize - bytes.as_ptr() as usize
+}
+
+fn found_of(bytes: &[u8], answer: Result<(usize, &[u8]), Refusal>) -> raw::Found {
+    let verdict = verdict_of(&answer);
+    match answer {
+        Ok((number, data)) => raw::Found { verdict, number, offset: start_in(bytes, data) - 8, size: data.len() },
+        Err(_) => raw::Found { verdict, number: 0, offset: 0, size: 0 },
+    }
+}
+
+fn opening_of(answer: &Result<Opening, Refusal>) -> raw::Opening {
+    let verdict = verdict_of(answer);
+    match answer {
+        Ok(o) => raw::Opening { verdict, parts: o.parts.len(), file_edition: o.file_edition, edition_read: o.edition_read },
+        Err(_) => raw::Opening { verdict, parts: 0, file_edition: 0, edition_read: 0 },
+    }
+}
+
+fn info_of(answer: &Result<Opening, Refusal>) -> raw::Info {
+    let r = answer.as_ref().map(|opening| opening.runtime).unwrap_or_default();
+    raw::Info {
+        verdict: verdict_of(answer),
+        minimum_wave_lanes: field(r.minimum_wave_lanes),
+        maximum_wave_lanes: field(r.maximum_wave_lanes),
+        stage: field(r.stage),
+        uses_view_id: field(r.uses_view_id),
+        max_vertex_count: field(r.max_vertex_count),
+        patch_vectors: field(r.patch_vectors),
+        mesh_topology: field(r.mesh_topology),
+        input_elements: field(r.input_elements),
+        output_elements: field(r.output_elements),
+        patch_elements: field(r.patch_elements),
+        input_vectors: field(r.input_vectors),
+        output_vectors: r.output_vectors.map(field),
+        threads: r.threads.map(field),
+        entry_name_offset: field(r.entry_name_offset),
+    }
+}
+
+fn lengths_of(answer: &Result<Opening, Refusal>) -> raw::Lengths {
+    let length = |of: fn(&Opening) -> Option<usize>| field(answer.as_ref().ok().and_then(of).map(|length| length as u32));
+    raw::Lengths {
+        verdict: verdict_of(answer),
+        resources: length(|o| Some(o.resource_count())),
+        strings: length(|o| o.string_length()),
+        indices: length(|o| o.index_count()),
+        elements: length(|o| o.element_count()),
+    }
+}
+
+fn resource_of(answer: Result<reference::Resource, Refusal>) -> raw::Resource {
+    let verdict = verdict_of(&answer);
+    let of = |get: fn(reference::Resource) -> Option<u32>| field(answer.ok().and_then(get));
+    raw::Resource {
+        verdict,
+        binding_type: of(|r| Some(r.resource_type)),
+        space: of(|r| Some(r.space)),
+        lower_bound: of(|r| Some(r.lower)),
+        upper_bound: of(|r| Some(r.upper)),
+        kind: of(|r| r.kind),
+        flags: of(|r| r.flags),
+    }
+}
+
+fn element_of(answer: Result<reference::Element, Refusal>) -> raw::Element {
+    let verdict = verdict_of(&answer);
+    let of = |get: fn(reference::Element) -> u32| field(answer.ok().map(get));
+    raw::Element {
+        verdict,
+        name_offset: of(|e| e.name_offset),
+        index_reference: of(|e| e.index_reference),
+        rows: of(|e| e.rows),
+        start_row: of(|e| e.start_row),
+        columns: of(|e| e.columns),
+        start_column: of(|e| e.start_column),
+        allocated: of(|e| e.allocated),
+        semantic_kind: of(|e| e.semantic),
+        component_type: of(|e| e.component),
+        interpolation: of(|e| e.interpolation),
+        dynamic_mask: of(|e| e.dynamic_mask),
+        stream: of(|e| e.stream),
+        reserved: of(|e| e.reserved),
+    }
+}
+
+/// A span must show the bytes of the view, where they stand; beside a refusal it is 0, 0. The start of an empty view is left free.
+fn span(bytes: &[u8], got: raw::Span, expected: Result<&[u8], Refusal>, what: std::fmt::Arguments) -> Check {
+    same!(bytes, got.verdict, verdict_of(&expected), "{what}");
+    match expected {
+        Err(_) => same!(bytes, (got.start, got.len), (0, 0), "{what}, refused"),
+        Ok([]) => {
+            same!(bytes, got.len, 0, "{what}, length");
+            same!(bytes, got.start <= bytes.len(), true, "{what}, start inside");
+        }
+        Ok(view) => same!(bytes, (got.start, got.len), (start_in(bytes, view), view.len()), "{what}"),
+    }
+    Ok(())
+}
+
+/// The reading calls of containers, or of PSV0 data alone.
+pub struct Reader {
+    pub name: &'static str,
+    pub call: Call,
+    reference: for<'a> fn(&'a [u8], usize) -> Result<Opening<'a>, Refusal>,
+    pub open: fn(&[u8], usize) -> raw::Opening,
+    pub info: fn(&[u8], usize) -> raw::Info,
+    pub lengths: fn(&[u8], usize) -> raw::Lengths,
+    pub resource: fn(&[u8], usize, usize) -> raw::Resource,
+    pub element: fn(&[u8], usize, usize) -> raw::Element,
+    pub view: fn(&[u8], usize, u32, usize) -> raw::Span,
+    pub section: fn(&[u8], usize, u32) -> raw::Span,
+}
+
+pub const CONTAINER: Reader = Reader {
+    name: "container",
+    call: Call::Open,
+    reference: reference::open,
+    open: raw::open,
+    info: raw::runtime_info,
+    lengths: raw::lengths,
+    resource: raw::resource,
+    element: raw::element,
+    view: raw::view,
+    section: raw::section,
+};
+
+pub const PSV0: Reader = Reader {
+    name: "psv0",
+    call: Call::Psv0,
+    reference: reference::open_psv0,
+    open: raw::psv0_open,
+    info: raw::psv0_runtime_info,
+    lengths: raw::psv0_lengths,
+    resource: raw::psv0_resource,
+    element: raw::psv0_element,
+    view: raw::psv0_view,
+    section: raw::psv0_section,
+};
+
+pub const STAGE_UNION: u32 = 0;
+pub const STRING: u32 = 1;
+pub const ARRAY: u32 = 2;
+pub const ENTRY_NAME: u32 = 3;
+pub const MASK: u32 = 4;
+
+/// The numbers to ask for in a list of `count`: all of a short one, some of a long one, and some past the end.
+fn numbers(random: &mut Random, count: usize) -> Vec<usize> {
+    let mut numbers: Vec<usize> = (0..count.min(6)).collect();
+    if count > 6 {
+        numbers.push(count - 1);
+        numbers.extend((0..4).map(|_| random.below(count)));
+    }
+    numbers.push(count);
+    numbers.push(random.pick(&[count + 1, usize::MAX, 1 << 32, 1 << 28, usize::MAX / 16 + 1]));
+    numbers
+}
+
+/// The table calls on any bytes.
+pub fn table(random: &mut Random, bytes: &[u8], hits: &mut Hits) -> Check {
+    let expected = reference::table(bytes);
+    let got = raw::table(bytes);
+    hits.note(Call::Table, got.verdict);
+    same!(bytes, got, parts_of(&expected), "table");
+    for name in names(random, expected.as_deref().unwrap_or(&[])) {
+        let got = raw::table_part(bytes, &name);
+        hits.note(Call::Query, got.verdict);
+        same!(bytes, got, found_of(bytes, reference::table_part(bytes, name)), "table_part {name:?}");
+        same!(bytes, raw::known(&name), reference::known(name), "known {name:?}");
+    }
+    Ok(())
+}
+
+/// Names to ask for: the two that matter, one of the container's, one that is hardly there.
+fn names(random: &mut Random, parts: &[reference::Part]) -> Vec<[u8; 4]> {
+    let mut names = vec![*b"DXIL", *b"PSV0", random.pick(&reference::KNOWN), (random.next() as u32).to_le_bytes()];
+    if !parts.is_empty() {
+        names.push(random.pick(parts).name);
+    }
+    names
+}
+
+/// Opening and every query, at one edition.
+pub fn reading(random: &mut Random, reader: &Reader, bytes: &[u8], edition: usize, hits: &mut Hits) -> Check {
+    let name = reader.name;
+    let expected = (reader.reference)(bytes, edition);
+    let got = (reader.open)(bytes, edition);
+    hits.note(reader.call, got.verdict);
+    same!(bytes, got, opening_of(&expected), "{name} open {edition}");
+    if matches!(reader.call, Call::Open) {
+        if edition == 1 {
+            same!(bytes, raw::open_default(bytes), got, "open_default");
+        }
+        let parts = expected.as_ref().map(|opening| &opening.parts[..]).unwrap_or(&[]);
+        for name in names(random, parts) {
+            let answer = expected.as_ref().map_err(|refusal| *refusal).and_then(|o| o.part(name));
+            let got = raw::part(bytes, edition, &name);
+            hits.note(Call::Query, got.verdict);
+            same!(bytes, got, found_of(bytes, answer), "part {edition} {name:?}");
+        }
+    }
+    same!(bytes, (reader.info)(bytes, edition), info_of(&expected), "{name} info {edition}");
+    same!(bytes, (reader.lengths)(bytes, edition), lengths_of(&expected), "{name} lengths {edition}");
+
+    let opening = match &expected {
+        Ok(opening) => opening,
+        Err(refusal) => return refused(random, reader, bytes, edition, *refusal),
+    };
+    for i in numbers(random, opening.resource_count()) {
+        let got = (reader.resource)(bytes, edition, i);
+        hits.note(Call::Query, got.verdict);
+        same!(bytes, got, resource_of(opening.resource(i)), "{name} resource {edition} {i}");
+    }
+    for i in numbers(random, opening.element_count().unwrap_or(0)) {
+        let got = (reader.element)(bytes, edition, i);
+        hits.note(Call::Query, got.verdict);
+        same!(bytes, got, element_of(opening.element(i)), "{name} element {edition} {i}");
+        let got = (reader.view)(bytes, edition, STRING, i);
+        hits.note(Call::Query, got.verdict);
+        span(bytes, got, opening.string(i), format_args!("{name} string {edition} {i}"))?;
+        let got = (reader.view)(bytes, edition, ARRAY, i);
+        hits.note(Call::Query, got.verdict);
+        span(bytes, got, opening.array_bytes(i), format_args!("{name} array {edition} {i}"))?;
+    }
+    for i in (0..=11).chain([random.pick(&[12, 255, 256, usize::MAX, 1 << 32])]) {
+        let got = (reader.view)(bytes, edition, MASK, i);
+        hits.note(Call::Query, got.verdict);
+        span(bytes, got, opening.mask(i), format_args!("{name} mask {edition} {i}"))?;
+    }
+    let any = random.next() as usize;
+    let got = (reader.view)(bytes, edition, ENTRY_NAME, any);
+    hits.note(Call::Query, got.verdict);
+    span(bytes, got, opening.entry_name(), format_args!("{name} entry name {edition}"))?;
+    // The reference keeps a copy of the stage union; the record that it hands out is where it stands.
+    same!(bytes, opening.handed.runtime[..16], opening.runtime.stage_info, "{name} stage union copy");
+    let got = (reader.view)(bytes, edition, STAGE_UNION, any);
+    span(bytes, got, Ok(&opening.handed.runtime[..16]), format_args!("{name} stage union {edition}"))?;
+    let kind = random.pick(&[5, 6, 255, 256, u32::MAX]);
+    let missing = Err(Refusal { number: 26, place: 0 });
+    span(bytes, (reader.view)(bytes, edition, kind, 0), missing, format_args!("{name} view {edition} {kind}"))?;
+
+    let h = &opening.handed;
+    for (i, expected) in [h.runtime, h.resources, h.strings, h.indices, h.elements, h.masks].into_iter().enumerate() {
+        let got = (reader.section)(bytes, edition, i as u32);
+        span(bytes, got, Ok(expected), format_args!("{name} section {edition} {i}"))?;
+    }
+    let section = random.pick(&[6, 7, 256, u32::MAX]);
+    span(bytes, (reader.section)(bytes, edition, section), missing, format_args!("{name} section {edition} {section}"))?;
+    if random.one_in(8) {
+        wrapped(reader, bytes, edition, opening)?;
+    }
+    Ok(())
+}
+
+/// Queries on bytes that don't open give what opening gives.
+fn refused(random: &mut Random, reader: &Reader, bytes: &[u8], edition: usize, refusal: Refusal) -> Check {
+    let name = reader.name;
+    let i = random.pick(&[0, 0, 1, 11, usize::MAX]);
+    same!(bytes, (reader.resource)(bytes, edition, i), resource_of(Err(refusal)), "{name} refused resource {edition}");
+    same!(bytes, (reader.element)(bytes, edition, i), element_of(Err(refusal)), "{name} refused element {edition}");
+    let kind = random.below(6) as u32;
+    let got = (reader.view)(bytes, edition, kind, i);
+    span(bytes, got, Err(refusal), format_args!("{name} refused view {edition} {kind}"))?;
+    let section = random.below(7) as u32;
+    let got = (reader.section)(bytes, edition, section);
+    span(bytes, got, Err(refusal), format_args!("{name} refused section {edition} {section}"))
+}
+
+/// The safe types show what the plain calls show.
+fn wrapped(reader: &Reader, bytes: &[u8], edition: usize, opening: &Opening) -> Check {
+    let refusal = |refusal: qollqamir::Refusal| Refusal { number: refusal.number, place: refusal.place };
+    macro_rules! shown {
+        ($open:expr) => {{
+            let safe = $open
+                .map_err(refusal)
+                .map_err(|refusal| Mismatch { what: format!("safe open {edition}: {refusal}"), bytes: bytes.to_vec() })?;
+            same!(bytes, (safe.file_edition(), safe.edition_read()), (opening.file_edition, opening.edition_read), "safe editions");
+            same!(bytes, safe.stage_union(), &opening.runtime.stage_info[..], "safe stage union");
+            same!(bytes, safe.entry_name().map_err(refusal), opening.entry_name(), "safe entry name");
+            same!(bytes, safe.runtime().entry_name_offset, opening.runtime.entry_name_offset, "safe entry name offset");
+            same!(bytes, safe.runtime().threads, opening.runtime.threads, "safe threads");
+            same!(bytes, safe.lengths().elements.map(|e| e as usize), opening.element_count(), "safe element count");
+            for i in 0..4 {
+                same!(bytes, safe.mask(3 * i).map_err(refusal), opening.mask(3 * i), "safe mask {}", 3 * i);
+                same!(bytes, safe.element_string(i).map_err(refusal), opening.string(i), "safe string {i}");
+                same!(bytes, safe.element_array(i).map_err(refusal), opening.array_bytes(i), "safe array {i}");
+                let got = safe.resource(i).map(|r| r.flags).map_err(refusal);
+                same!(bytes, got, opening.resource(i).map(|r| r.flags), "safe resource {i}");
+                let got = safe.element(i).map(|e| e.reserved).map_err(refusal);
+                same!(bytes, got, opening.element(i).map(|e| Some(e.reserved)), "safe element {i}");
+            }
+            let (s, h) = (safe.sections(), opening.handed);
+            let sections = [s.runtime, s.resources, s.strings, s.indices, s.elements, s.masks];
+            same!(bytes, sections, [h.runtime, h.resources, h.strings, h.indices, h.elements, h.masks], "safe sections");
+        }};
+    }
+    match reader.call {
+        Call::Open => shown!(qollqamir::Container::open(bytes, edition)),
+        _ => shown!(qollqamir::Psv0::open(bytes, edition)),
+    }
+    Ok(())
+}
+
+/// A writer's call on both sides: the same verdict and length, and the same whole buffer.
+pub fn write(edition: usize, sections: [&[u8]; 6], out: &[u8], hits: &mut Hits) -> Result<Result<Vec<u8>, u8>, Mismatch> {
+    let (mut ours, mut theirs) = (out.to_vec(), out.to_vec());
+    let got = raw::write_psv0(edition, sections, &mut ours);
+    let [runtime, resources, strings, indices, elements, masks] = sections;
+    let expected = reference::write_psv0(edition, runtime, resources, strings, indices, elements, masks, &mut theirs);
+    hits.note(Call::Write, got.verdict);
+    let all = sections.concat();
+    let lengths = sections.map(<[u8]>::len);
+    let expected_written = raw::Written { verdict: verdict_of(&expected), len: *expected.as_ref().unwrap_or(&0) };
+    same!(all, got, expected_written, "write {edition} {lengths:?} into {}", out.len());
+    delivered(&all, &ours, &theirs, out, expected)
+}
+
+pub fn assemble(
+    names: &[u8],
+    sizes: &[u32],
+    data: &[u8],
+    digest: &[u8],
+    out: &[u8],
+    hits: &mut Hits,
+) -> Result<Result<Vec<u8>, u8>, Mismatch> {
+    let (mut ours, mut theirs) = (out.to_vec(), out.to_vec());
+    let got = raw::assemble(names, sizes, data, digest, &mut ours);
+    let expected = reference::assemble(names, sizes, data, digest, &mut theirs);
+    hits.note(Call::Assemble, got.verdict);
+    let expected_written = raw::Written { verdict: verdict_of(&expected), len: *expected.as_ref().unwrap_or(&0) };
+    same!(data, got, expected_written, "assemble {names:?} {sizes:?} digest {} into {}", digest.len(), out.len());
+    delivered(data, &ours, &theirs, out, expected)
+}
+
+fn delivered(
+    given: &[u8],
+    ours: &[u8],
+    theirs: &[u8],
+    before: &[u8],
+    answer: Result<usize, Refusal>,
+) -> Result<Result<Vec<u8>, u8>, Mismatch> {
+    let differs = |what: &str| Mismatch { what: what.to_string(), bytes: given.to_vec() };
+    if ours != theirs {
+        return Err(differs("the output buffers differ"));
+    }
+    match answer {
+        Ok(len) if ours[len..] != before[len..] => Err(differs("bytes past the result changed")),
+        Ok(len) => Ok(Ok(ours[..len].to_vec())),
+        Err(_) if ours != before => Err(differs("a refused writer changed its output")),
+        Err(refusal) => Ok(Err(refusal.number)),
+    }
+}
+
+/// What the library shows of PSV0 at an edition, in a fixed order, with the same list lengths for all editions compared.
+pub fn shown(reader: &Reader, bytes: &[u8], edition: usize, resources: usize, elements: usize) -> Vec<Option<Vec<u8>>> {
+    let mut all = Vec::new();
+    let put = |all: &mut Vec<Option<Vec<u8>>>, fields: &[raw::Field]| {
+        all.extend(fields.iter().map(|f| f.set.then(|| f.value.to_le_bytes().to_vec())));
+    };
+    let view = |all: &mut Vec<Option<Vec<u8>>>, kind, number| {
+        let span = (reader.view)(bytes, edition, kind, number);
+        all.push((span.verdict.number == 0).then(|| bytes[span.start..span.start + span.len].to_vec()));
+    };
+    let i = (reader.info)(bytes, edition);
+    put(
+        &mut all,
+        &[
+            i.minimum_wave_lanes,
+            i.maximum_wave_lanes,
+            i.stage,
+            i.uses_view_id,
+            i.max_vertex_count,
+            i.patch_vectors,
+            i.mesh_topology,
+            i.input_elements,
+            i.output_elements,
+            i.patch_elements,
+            i.input_vectors,
+            i.entry_name_offset,
+        ],
+    );
+    put(&mut all, &i.output_vectors);
+    put(&mut all, &i.threads);
+    let l = (reader.lengths)(bytes, edition);
+    put(&mut all, &[l.resources, l.strings, l.indices, l.elements]);
+    view(&mut all, STAGE_UNION, 0);
+    view(&mut all, ENTRY_NAME, 0);
+    for number in 0..11 {
+        view(&mut all, MASK, number);
+    }
+    for number in 0..resources {
+        let r = (reader.resource)(bytes, edition, number);
+        put(&mut all, &[r.binding_type, r.space, r.lower_bound, r.upper_bound, r.kind, r.flags]);
+    }
+    for number in 0..elements {
+        let e = (reader.element)(bytes, edition, number);
+        put(
+            &mut all,
+            &[
+                e.name_offset,
+                e.index_reference,
+                e.rows,
+                e.start_row,
+                e.columns,
+                e.start_column,
+                e.allocated,
+                e.semantic_kind,
+                e.component_type,
+                e.interpolation,
+                e.dynamic_mask,
+                e.stream,
+                e.reserved,
+            ],
+        );
+        view(&mut all, STRING, number);
+        view(&mut all, ARRAY, number);
+    }
+    all
+}

@@ -1,0 +1,153 @@
+//! What must hold of the library's answers among themselves: older and newer editions, widenings, round trips.
+
+use qollqamir::raw;
+
+use crate::compare::{assemble, same, shown, write, Check, Hits, Mismatch, Reader, CONTAINER, PSV0};
+use crate::make::{container, edition_of, get4, Parts, Pieces, SIZES};
+use crate::random::Random;
+
+/// Lists longer than this are compared up to it.
+const LONG: usize = 24;
+
+fn list_lengths(reader: &Reader, bytes: &[u8], edition: usize) -> (usize, usize) {
+    let lengths = (reader.lengths)(bytes, edition);
+    ((lengths.resources.value as usize).min(LONG), (lengths.elements.value as usize).min(LONG))
+}
+
+/// An older reader's refusal is the newer one's; what the older shows set, the newer shows the same.
+pub fn editions(reader: &Reader, bytes: &[u8]) -> Check {
+    let verdicts = [0, 1, 2, 3].map(|edition| (reader.open)(bytes, edition).verdict);
+    for newer in 1..4 {
+        let older = newer - 1;
+        if verdicts[older].number != 0 {
+            same!(bytes, verdicts[newer], verdicts[older], "{} editions {older} and {newer}", reader.name);
+        }
+    }
+    let Some(newest) = (0..4).rev().find(|edition| verdicts[*edition].number == 0) else {
+        return Ok(());
+    };
+    let (resources, elements) = list_lengths(reader, bytes, newest);
+    let values: Vec<_> = (0..=newest).map(|edition| shown(reader, bytes, edition, resources, elements)).collect();
+    for newer in 1..=newest {
+        for (i, (old, new)) in values[newer - 1].iter().zip(&values[newer]).enumerate() {
+            if old.is_some() {
+                same!(bytes, new, old, "{} value {i} of editions {} and {newer}", reader.name, newer - 1);
+            }
+        }
+    }
+    Ok(())
+}
+
+/// Makes a widening of pieces that reader `k` accepts, and looks whether the same is shown. Answers whether there was one to make.
+pub fn widening(random: &mut Random, pieces: &Pieces, parts: &Parts, bytes: &[u8], k: usize) -> Result<bool, Mismatch> {
+    if raw::open(bytes, k).verdict.number != 0 || pieces.runtime.len() < SIZES[k] {
+        return Ok(false);
+    }
+    let mut wide = pieces.clone();
+    let more = 4 * random.below(8);
+    wide.runtime.extend_from_slice(&random.bytes(more));
+    if pieces.resource_size >= 24 || k < 2 {
+        wide.resource_size += 4 * random.below(5);
+        wide.resources = pieces.stretched(&pieces.resources, pieces.resource_size, wide.resource_size, random);
+    }
+    if k > 0 {
+        wide.element_size += 4 * random.below(5);
+        wide.elements = pieces.stretched(&pieces.elements, pieces.element_size, wide.element_size, random);
+    }
+    if random.one_in(2) {
+        let after = random.below(40);
+        wide.after = random.bytes(after);
+    }
+    let mut psv0 = wide.bytes().0;
+    if edition_of(pieces.runtime.len()) == 0 || (k == 0 && random.one_in(2)) {
+        // Reader 0 stops after the resources, and where the narrow record had no later sections the wide one may have none either.
+        let mut first = wide.clone();
+        first.runtime.truncate(32);
+        first.after.clear();
+        let end = first.bytes().0.len() - first.runtime.len() + wide.runtime.len();
+        psv0.truncate(end);
+        psv0.extend_from_slice(&wide.after);
+    }
+    let wide_parts: Parts = parts.iter().map(|(name, data)| (*name, if name == b"PSV0" { psv0.clone() } else { data.clone() })).collect();
+    let widened = container(random, &wide_parts).0;
+    same!(widened, raw::open(&widened, k).verdict, raw::open(bytes, k).verdict, "widening at {k}");
+    let (resources, elements) = list_lengths(&CONTAINER, bytes, k);
+    let narrow = shown(&CONTAINER, bytes, k, resources, elements);
+    same!(widened, shown(&CONTAINER, &widened, k, resources, elements), narrow, "shown of a widening at {k}");
+    Ok(true)
+}
+
+/// The sections that an opening hands out.
+fn handed<'a>(reader: &Reader, bytes: &'a [u8], edition: usize) -> [&'a [u8]; 6] {
+    [0, 1, 2, 3, 4, 5].map(|section| {
+        let span = (reader.section)(bytes, edition, section);
+        &bytes[span.start..span.start + span.len]
+    })
+}
+
+/// Hands out, writes, assembles, opens, hands out and writes again. Answers whether the PSV0 data was in plain form.
+pub fn round_trip(random: &mut Random, psv0: &[u8], edition: usize, hits: &mut Hits) -> Result<bool, Mismatch> {
+    let opening = raw::psv0_open(psv0, edition);
+    if opening.verdict.number != 0 {
+        return Ok(false);
+    }
+    let sections = handed(&PSV0, psv0, edition);
+    let read = opening.edition_read;
+    let room = random.bytes(psv0.len() + 64);
+    let plain = reference::plain(psv0);
+    let written = match write(read, sections, &room, hits)? {
+        Ok(written) => written,
+        Err(number) => {
+            same!(psv0, plain && edition == 3, false, "plain form is written again, refused {number}");
+            return Ok(false);
+        }
+    };
+    if plain && edition == 3 {
+        same!(psv0, written[..], *psv0, "plain form written again");
+    }
+    same!(written, reference::plain(&written), true, "a writer's result is in plain form");
+
+    let data = [b"code".as_slice(), &written].concat();
+    let sizes = [4, written.len() as u32];
+    let room = random.bytes(data.len() + 100);
+    let Ok(made) = assemble(b"DXILPSV0", &sizes, &data, &random.bytes(16), &room, hits)? else {
+        return Err(Mismatch { what: "assembly refused".to_string(), bytes: data });
+    };
+    let opening = raw::open(&made, 3);
+    same!(made, (opening.verdict.number, opening.parts), (0, 2), "an assembled container opens");
+    same!(made, (opening.file_edition, opening.edition_read), (read, read), "an assembled container's editions");
+    same!(made, handed(&CONTAINER, &made, 3), sections, "an assembled container hands out what was given");
+    let Ok(again) = write(read, handed(&CONTAINER, &made, 3), &random.bytes(written.len()), hits)? else {
+        return Err(Mismatch { what: "second writing refused".to_string(), bytes: made });
+    };
+    same!(made, again, written, "written twice");
+    Ok(plain)
+}
+
+/// The parts of a container, in order, where it has a table.
+pub fn reassembled(random: &mut Random, bytes: &[u8], hits: &mut Hits) -> Check {
+    let Ok(parts) = reference::table(bytes) else {
+        return Ok(());
+    };
+    let names: Vec<u8> = parts.iter().flat_map(|part| part.name).collect();
+    let sizes: Vec<u32> = parts.iter().map(|part| part.size as u32).collect();
+    let data: Vec<u8> = parts.iter().flat_map(|part| part.data(bytes)).copied().collect();
+    let room = random.bytes(bytes.len() + 4 * parts.len() + 8);
+    let Ok(made) = assemble(&names, &sizes, &data, &bytes[4..20], &room, hits)? else {
+        return Err(Mismatch { what: "assembling an accepted table again is refused".to_string(), bytes: bytes.to_vec() });
+    };
+    same!(made, made[4..20], bytes[4..20], "digest");
+    let table = raw::table(&made);
+    same!(made, (table.verdict.number, table.count), (0, parts.len()), "table of an assembled container");
+    let mut end = 32 + 4 * parts.len();
+    for (i, part) in parts.iter().enumerate() {
+        let offset = end.next_multiple_of(4);
+        same!(made, made[end..offset].iter().all(|byte| *byte == 0), true, "filler before part {i}");
+        let entry = (table.names[i], table.offsets[i] as usize, table.sizes[i] as usize);
+        same!(made, entry, (u32::from_le_bytes(part.name), offset, part.size), "part {i}");
+        end = offset + 8 + part.size;
+        same!(made, made[offset + 8..end], *part.data(bytes), "data of part {i}");
+    }
+    same!(made, (made.len(), get4(&made, 24) as usize), (end, end), "length");
+    Ok(())
+}

@@ -1,0 +1,435 @@
+//! Holds the compiled library against the independent reader on containers made at random.
+//!
+//!     differential [--cases N] [--seed S] [--only CASE]
+//!
+//! The first difference ends the run: it is printed with its seed and case, and its bytes are kept in a file.
+
+mod compare;
+mod demands;
+mod make;
+mod random;
+
+use std::panic::{catch_unwind, AssertUnwindSafe};
+use std::process::ExitCode;
+use std::time::Instant;
+
+use compare::{Call, Check, Hits, Mismatch, CALLS, CONTAINER, PSV0};
+use make::{Pieces, SIZES};
+use random::Random;
+
+const LONGEST: usize = 16_777_216;
+
+/// How often the checks with a condition were made.
+#[derive(Default)]
+struct Done {
+    hits: Hits,
+    accepted: [u64; 4],
+    widenings: [u64; 4],
+    plain: u64,
+    round_trips: u64,
+}
+
+struct Arguments {
+    cases: u64,
+    seed: u64,
+    only: Option<u64>,
+}
+
+fn arguments() -> Result<Arguments, String> {
+    let mut arguments = Arguments { cases: 300_000, seed: 20_240_601, only: None };
+    let mut words = std::env::args().skip(1);
+    while let Some(word) = words.next() {
+        let number = words.next().and_then(|number| number.parse().ok());
+        let number = number.ok_or(format!("{word} needs a number"))?;
+        match word.as_str() {
+            "--cases" => arguments.cases = number,
+            "--seed" => arguments.seed = number,
+            "--only" => arguments.only = Some(number),
+            _ => return Err("usage: differential [--cases N] [--seed S] [--only CASE]".to_string()),
+        }
+    }
+    Ok(arguments)
+}
+
+fn main() -> ExitCode {
+    let Arguments { cases, seed, only } = match arguments() {
+        Ok(arguments) => arguments,
+        Err(message) => {
+            eprintln!("{message}");
+            return ExitCode::from(2);
+        }
+    };
+    println!("differential: {cases} cases, seed {seed}");
+    let vectors = vectors();
+    let start = Instant::now();
+    let mut done = Done::default();
+    let numbers = match only {
+        Some(case) => case..case + 1,
+        None => 0..cases,
+    };
+    if only.is_none() {
+        if let Err(mismatch) = longest(&mut done.hits) {
+            return report(seed, "the longest inputs", mismatch);
+        }
+    }
+    for number in numbers {
+        let outcome = catch_unwind(AssertUnwindSafe(|| case(seed, number, &vectors, &mut done)));
+        let outcome = outcome.unwrap_or_else(|_| Err(Mismatch { what: "a panic".to_string(), bytes: Vec::new() }));
+        if let Err(mismatch) = outcome {
+            return report(seed, &format!("case {number}"), mismatch);
+        }
+    }
+    let missed = summary(&done);
+    println!("{:.1} seconds", start.elapsed().as_secs_f64());
+    if only.is_none() && !missed.is_empty() {
+        println!("never hit: {}", missed.join(", "));
+        return ExitCode::FAILURE;
+    }
+    println!("differential: {cases} cases, no difference");
+    ExitCode::SUCCESS
+}
+
+fn report(seed: u64, case: &str, mismatch: Mismatch) -> ExitCode {
+    println!("MISMATCH: seed {seed}, {case}: {}", mismatch.what);
+    let folder = concat!(env!("CARGO_MANIFEST_DIR"), "/../target");
+    let file = std::path::Path::new(folder).join("differential-mismatch.bin");
+    match std::fs::write(&file, &mismatch.bytes) {
+        Ok(()) => println!("its {} bytes are in {}", mismatch.bytes.len(), file.display()),
+        Err(error) => println!("its bytes can't be kept: {error}"),
+    }
+    ExitCode::FAILURE
+}
+
+/// Prints how often each number was given, and answers which of those that a call can give were not.
+fn summary(done: &Done) -> Vec<String> {
+    let mut missed = Vec::new();
+    print!("number  ");
+    for (name, _) in CALLS {
+        print!("{name:>12}");
+    }
+    println!();
+    for number in 0..=28 {
+        print!("{:>6}  ", if number == 0 { "ok".to_string() } else { number.to_string() });
+        for (call, (name, can)) in CALLS.iter().enumerate() {
+            let count = done.hits.counts[call][number];
+            print!("{count:>12}");
+            if count == 0 && (number == 0 || can.contains(&(number as u8))) {
+                missed.push(format!("{number} by {name}"));
+            }
+        }
+        println!();
+    }
+    for number in [8, 9, 22, 23] {
+        print!("places of {number}:");
+        for (call, (name, can)) in CALLS.iter().enumerate() {
+            if can.contains(&number) {
+                let places = &done.hits.places[call][usize::from(number)];
+                print!(" {name} {} (to {})", places.len(), places.last().unwrap_or(&0));
+                if places.len() < 3 {
+                    missed.push(format!("three places of {number} by {name}"));
+                }
+            }
+        }
+        println!();
+    }
+    println!("containers accepted by readers 0 to 3: {:?}", done.accepted);
+    println!("widenings for readers 0 to 3: {:?}", done.widenings);
+    println!("round trips: {}, of them from plain form {}", done.round_trips, done.plain);
+    for (what, count) in [
+        ("a container accepted by each reader", done.accepted.iter().min()),
+        ("a widening for each reader", done.widenings.iter().min()),
+        ("a round trip", Some(&done.round_trips)),
+        ("plain form", Some(&done.plain)),
+    ] {
+        if count == Some(&0) {
+            missed.push(what.to_string());
+        }
+    }
+    missed
+}
+
+/// The short ones among the outside vectors, if they are there.
+fn vectors() -> Vec<Vec<u8>> {
+    let mut files = Vec::new();
+    for folder in ["llvm", "real"] {
+        let folder = format!("{}/../../tests/vectors/{folder}", env!("CARGO_MANIFEST_DIR"));
+        let entries = std::fs::read_dir(folder).into_iter().flatten().flatten();
+        files.extend(entries.map(|entry| entry.path()));
+    }
+    files.sort();
+    files.iter().filter_map(|file| std::fs::read(file).ok()).filter(|bytes| bytes.len() <= 8192).collect()
+}
+
+/// One container or PSV0 data, or both, looked at from every side.
+fn case(seed: u64, number: u64, vectors: &[Vec<u8>], done: &mut Done) -> Check {
+    let random = &mut Random::new(seed, number);
+    match random.below(100) {
+        0..=3 => {
+            let len = random.below(160);
+            let mut bytes = random.bytes(len);
+            if random.one_in(2) && len >= 32 {
+                bytes[..4].copy_from_slice(b"DXBC");
+                bytes[20..24].copy_from_slice(&[1, 0, 0, 0]);
+                make::put4(&mut bytes, 24, len as u32);
+                make::put4(&mut bytes, 28, random.pick(&[0, 1, 2, 3, 96]));
+            }
+            container_case(random, &bytes, done)?;
+            psv0_case(random, &bytes, done)
+        }
+        4..=7 if !vectors.is_empty() => {
+            let mut bytes = vectors[random.below(vectors.len())].clone();
+            let fields = [0, 20, 24, 28, 32, 36];
+            match random.below(4) {
+                0 => (),
+                1 => make::resize(random, &mut bytes),
+                _ => make::damage(random, &mut bytes, &fields),
+            }
+            container_case(random, &bytes, done)
+        }
+        4..=29 => valid(random, done),
+        // Flaws in PSV0 data, in a container that is right.
+        30..=44 => {
+            let mut pieces = Pieces::valid(random);
+            pieces.flaw(random);
+            let psv0 = pieces.bytes().0;
+            within(random, &psv0, done)
+        }
+        // Damaged, cut or lengthened PSV0 data, in a container that is right.
+        45..=69 => {
+            let (mut psv0, fields) = Pieces::valid(random).bytes();
+            if random.one_in(4) {
+                make::resize(random, &mut psv0);
+            } else {
+                make::damage(random, &mut psv0, &fields);
+            }
+            within(random, &psv0, done)
+        }
+        // A damaged container.
+        70..=84 => {
+            let psv0 = Pieces::valid(random).bytes().0;
+            let mut parts = make::parts(random, &psv0);
+            match random.below(8) {
+                0 => {
+                    let (from, to) = (random.below(parts.len()), random.below(parts.len()));
+                    parts[to].0 = parts[from].0;
+                }
+                1 => {
+                    let gone = random.below(parts.len());
+                    parts.remove(gone);
+                }
+                2 => {
+                    let gone = random.below(parts.len());
+                    parts[gone].1.clear();
+                }
+                _ => (),
+            }
+            let (mut bytes, fields) = make::container(random, &parts);
+            if !random.one_in(4) {
+                make::damage(random, &mut bytes, &fields);
+            }
+            container_case(random, &bytes, done)
+        }
+        // A container that was cut or lengthened, with or without a size field that follows.
+        85..=89 => {
+            let psv0 = Pieces::valid(random).bytes().0;
+            let parts = make::parts(random, &psv0);
+            let mut bytes = make::container(random, &parts).0;
+            make::resize(random, &mut bytes);
+            if random.one_in(2) && bytes.len() >= 28 {
+                let len = bytes.len() as u32;
+                make::put4(&mut bytes, 24, len);
+            }
+            container_case(random, &bytes, done)
+        }
+        90..=95 => write_case(random, done),
+        _ => assemble_case(random, done),
+    }
+}
+
+/// A right container: everything above, widenings, round trips.
+fn valid(random: &mut Random, done: &mut Done) -> Check {
+    let pieces = if random.one_in(3) { Pieces::plain(random) } else { Pieces::valid(random) };
+    let psv0 = pieces.bytes().0;
+    let parts = make::parts(random, &psv0);
+    let bytes = make::container(random, &parts).0;
+    container_case(random, &bytes, done)?;
+    for k in 0..4 {
+        if qollqamir::raw::open(&bytes, k).verdict.number != 0 {
+            return Err(Mismatch { what: format!("a right container is refused at {k}"), bytes });
+        }
+    }
+    let k = random.below(4);
+    if demands::widening(random, &pieces, &parts, &bytes, k)? {
+        done.widenings[k] += 1;
+    }
+    if random.one_in(4) {
+        demands::reassembled(random, &bytes, &mut done.hits)?;
+    }
+    if random.one_in(3) {
+        psv0_case(random, &psv0, done)?;
+    }
+    Ok(())
+}
+
+/// PSV0 data alone, and in a container.
+fn within(random: &mut Random, psv0: &[u8], done: &mut Done) -> Check {
+    let parts = make::parts(random, psv0);
+    let bytes = make::container(random, &parts).0;
+    container_case(random, &bytes, done)?;
+    psv0_case(random, psv0, done)
+}
+
+/// All calls on a container, at every edition and one that there is not.
+fn container_case(random: &mut Random, bytes: &[u8], done: &mut Done) -> Check {
+    compare::table(random, bytes, &mut done.hits)?;
+    for edition in 0..4 {
+        compare::reading(random, &CONTAINER, bytes, edition, &mut done.hits)?;
+        if qollqamir::raw::open(bytes, edition).verdict.number == 0 {
+            done.accepted[edition] += 1;
+        }
+    }
+    let beyond = random.pick(&[4, 4, 5, 255, 256, usize::MAX, 1 << 32]);
+    compare::reading(random, &CONTAINER, bytes, beyond, &mut done.hits)?;
+    if random.one_in(3) {
+        demands::editions(&CONTAINER, bytes)?;
+    }
+    Ok(())
+}
+
+/// All calls on PSV0 data alone, and round trips.
+fn psv0_case(random: &mut Random, psv0: &[u8], done: &mut Done) -> Check {
+    for edition in 0..4 {
+        compare::reading(random, &PSV0, psv0, edition, &mut done.hits)?;
+    }
+    let beyond = random.pick(&[4, 4, 5, 255, 256, usize::MAX, 1 << 32]);
+    compare::reading(random, &PSV0, psv0, beyond, &mut done.hits)?;
+    if random.one_in(3) {
+        demands::editions(&PSV0, psv0)?;
+    }
+    let edition = if random.one_in(2) { 3 } else { random.below(3) };
+    let before = done.hits.counts[Call::Assemble as usize][0];
+    done.plain += u64::from(demands::round_trip(random, psv0, edition, &mut done.hits)?);
+    done.round_trips += u64::from(done.hits.counts[Call::Assemble as usize][0] > before);
+    Ok(())
+}
+
+/// The PSV0 writer on sections that are right, flawed, or of a wrong length, into outputs of every kind.
+fn write_case(random: &mut Random, done: &mut Done) -> Check {
+    let mut pieces = Pieces::plain(random);
+    let mut edition = SIZES.iter().position(|size| *size == pieces.runtime.len()).unwrap();
+    for _ in 0..4 {
+        if random.one_in(2) {
+            pieces.flaw(random);
+        }
+        let mut sections = pieces.sections().map(<[u8]>::to_vec);
+        if random.one_in(3) {
+            let section = random.below(6);
+            let change = random.pick(&[1, 2, 4, 8, 16, 24]);
+            let len = sections[section].len();
+            if random.one_in(2) {
+                sections[section].resize(len + change, 0);
+            } else {
+                sections[section].truncate(len.saturating_sub(change));
+            }
+        }
+        if random.one_in(8) {
+            edition = random.pick(&[0, 1, 2, 3, 4, 255, usize::MAX]);
+        }
+        let given = [0, 1, 2, 3, 4, 5].map(|section| &sections[section][..]);
+        let all: usize = given.iter().map(|section| section.len()).sum();
+        let room = random.bytes(all + 64);
+        let needed = match compare::write(edition, given, &room, &mut done.hits)? {
+            Ok(written) => written.len(),
+            Err(_) => all,
+        };
+        for room in [needed, needed.saturating_sub(1), random.below(needed + 9), 0] {
+            let room = random.bytes(room);
+            compare::write(edition, given, &room, &mut done.hits).map(drop)?;
+        }
+    }
+    Ok(())
+}
+
+/// The assembler on parts that are right or break a rule.
+fn assemble_case(random: &mut Random, done: &mut Done) -> Check {
+    for _ in 0..4 {
+        let count = match random.below(20) {
+            0 => random.pick(&[95, 96, 97, 98]),
+            1 => random.below(97),
+            _ => random.below(6),
+        };
+        let mut names = random.bytes(4 * count);
+        let mut sizes: Vec<u32> = (0..count).map(|_| random.below(12) as u32).collect();
+        let len: usize = sizes.iter().sum::<u32>() as usize;
+        let mut data = random.bytes(len);
+        let mut digest = random.bytes(16);
+        match random.below(12) {
+            0 if count > 1 => {
+                let (from, to) = (random.below(count), random.below(count));
+                names.copy_within(4 * from..4 * from + 4, 4 * to);
+            }
+            1 if count > 0 => {
+                let at = random.below(count);
+                sizes[at] = random.pick(&[u32::MAX, 0x8000_0000, sizes[at] + 1, sizes[at].wrapping_sub(1)]);
+            }
+            2 => {
+                let len = random.pick(&[0, 1, 15, 17, 32]);
+                digest = random.bytes(len);
+            }
+            3 => make::resize(random, &mut names),
+            4 => make::resize(random, &mut data),
+            // Sizes whose sum is the data's length but for a multiple of 2^32.
+            5 if count > 1 => {
+                sizes[0] = u32::MAX - (len as u32 - sizes[0] - sizes[1]);
+                sizes[1] = 1 + len as u32;
+            }
+            6 if count > 0 => {
+                sizes.pop();
+            }
+            _ => (),
+        }
+        let room = random.bytes(len + 16 * count + 64);
+        let needed = match compare::assemble(&names, &sizes, &data, &digest, &room, &mut done.hits)? {
+            Ok(made) => made.len(),
+            Err(_) => len,
+        };
+        for room in [needed, needed.saturating_sub(1), random.below(needed + 9), 0] {
+            let room = random.bytes(room);
+            compare::assemble(&names, &sizes, &data, &digest, &room, &mut done.hits).map(drop)?;
+        }
+    }
+    Ok(())
+}
+
+/// Inputs and results of the greatest length, and one byte or word more.
+fn longest(hits: &mut Hits) -> Check {
+    let random = &mut Random::new(1, 1);
+    let psv0 = Pieces::valid_of(random, 52).bytes().0;
+    let parts = vec![(*b"DXIL", b"code".to_vec()), (*b"PSV0", psv0.clone())];
+    let mut bytes = make::container(random, &parts).0;
+    for len in [LONGEST, LONGEST + 1] {
+        bytes.resize(len, 0);
+        make::put4(&mut bytes, 24, len as u32);
+        compare::table(random, &bytes, hits)?;
+        for edition in [0, 3, 4] {
+            compare::reading(random, &CONTAINER, &bytes, edition, hits)?;
+        }
+    }
+    let mut data = psv0;
+    for len in [LONGEST, LONGEST + 1] {
+        data.resize(len, 0);
+        for edition in [0, 3, 4] {
+            compare::reading(random, &PSV0, &data, edition, hits)?;
+        }
+    }
+    // 52 bytes beside the strings of edition 1; 44 beside the data of one part.
+    let mut runtime = [0; 36];
+    runtime[24] = 1;
+    for strings in [LONGEST - 52, LONGEST - 48] {
+        compare::write(1, [&runtime, &[], &data[..strings], &[], &[], &[]], &data[..LONGEST], hits).map(drop)?;
+    }
+    for size in [LONGEST - 44, LONGEST - 43] {
+        compare::assemble(b"PRIV", &[size as u32], &data[..size], &[7; 16], &data[..LONGEST], hits).map(drop)?;
+    }
+    Ok(())
+}

@@ -1,0 +1,425 @@
+//! Containers and PSV0 data, made at random: right ones, ones with a flaw in one place, and damaged bytes.
+
+use crate::random::Random;
+
+pub const SIZES: [usize; 4] = [24, 36, 48, 52];
+
+pub fn get4(bytes: &[u8], at: usize) -> u32 {
+    u32::from_le_bytes(bytes[at..at + 4].try_into().unwrap())
+}
+
+pub fn put4(bytes: &mut [u8], at: usize, number: u32) {
+    bytes[at..at + 4].copy_from_slice(&number.to_le_bytes());
+}
+
+fn push4(bytes: &mut Vec<u8>, number: usize) {
+    bytes.extend_from_slice(&(number as u32).to_le_bytes());
+}
+
+/// The file's edition for a runtime record of `size` bytes.
+pub fn edition_of(size: usize) -> usize {
+    SIZES.iter().rposition(|least| *least <= size).unwrap_or(0)
+}
+
+/// PSV0 data in pieces. Sections 3 to 6 are there where the runtime record has 36 bytes or more.
+#[derive(Clone, Debug)]
+pub struct Pieces {
+    pub runtime: Vec<u8>,
+    pub resource_size: usize,
+    pub resources: Vec<u8>,
+    pub strings: Vec<u8>,
+    pub indices: Vec<u8>,
+    pub element_size: usize,
+    pub elements: Vec<u8>,
+    pub masks: Vec<u8>,
+    pub after: Vec<u8>,
+}
+
+/// The number of mask words that a runtime record of edition 1 or more calls for.
+pub fn mask_words(runtime: &[u8]) -> usize {
+    let w = |v: u8| usize::from(v).div_ceil(8);
+    let stage = runtime[24];
+    let p = if [3, 4, 13].contains(&stage) { runtime[26] } else { 0 };
+    let u = usize::from(runtime[31]);
+    let v = &runtime[32..36];
+    let mut words: usize = v.iter().map(|v| w(*v) * u * 4).sum();
+    if runtime[25] == 1 {
+        words += v.iter().map(|v| w(*v)).sum::<usize>();
+        if stage == 3 || stage == 13 {
+            words += w(p);
+        }
+    }
+    if stage == 3 {
+        words += w(p) * u * 4;
+    }
+    if stage == 4 {
+        words += w(v[0]) * usize::from(p) * 4;
+    }
+    words
+}
+
+/// A count: mostly few, now and then many.
+fn count(random: &mut Random, few: usize, many: usize) -> usize {
+    match random.below(200) {
+        0 => random.below(many + 1),
+        1 => many,
+        2..=60 => 0,
+        _ => random.below(few + 1),
+    }
+}
+
+impl Pieces {
+    /// PSV0 data that every reader accepts.
+    pub fn valid(random: &mut Random) -> Pieces {
+        let size = random.pick(&[24, 24, 28, 32, 36, 36, 40, 44, 48, 48, 52, 52, 52, 52, 56, 60, 100]);
+        Pieces::valid_of(random, size)
+    }
+
+    pub fn valid_of(random: &mut Random, size: usize) -> Pieces {
+        let mut runtime = random.bytes(size);
+        let mut pieces = Pieces {
+            runtime: Vec::new(),
+            resource_size: random.pick(&[16, 16, 20, 24, 24, 24, 28, 36]),
+            resources: Vec::new(),
+            strings: Vec::new(),
+            indices: Vec::new(),
+            element_size: random.pick(&[16, 16, 16, 20, 24, 40]),
+            elements: Vec::new(),
+            masks: Vec::new(),
+            after: Vec::new(),
+        };
+        let resources = count(random, 3, 60);
+        pieces.resources = random.bytes(resources * pieces.resource_size);
+        if random.one_in(4) {
+            let after = random.below(40);
+            pieces.after = random.bytes(after);
+        }
+        if size < 36 {
+            pieces.runtime = runtime;
+            return pieces;
+        }
+
+        // Stages with rules of their own come more often; vectors are few, or the masks would be all there is.
+        let stage = random.pick(&[0, 1, 2, 2, 2, 3, 3, 3, 4, 4, 4, 5, 5, 6, 7, 8, 9, 10, 11, 12, 13, 13, 13, 14, 15]);
+        runtime[24] = stage;
+        runtime[25] = random.below(2) as u8;
+        if !random.one_in(100) {
+            runtime[26] = random.pick(&[0, 1, 7, 8, 9, 16, 17, 31]);
+        }
+        for elements in &mut runtime[28..31] {
+            *elements = count(random, 3, 255) as u8;
+        }
+        runtime[31] = count(random, 3, 255) as u8;
+        for (stream, vectors) in runtime[32..36].iter_mut().enumerate() {
+            let some = match random.below(300) {
+                0 => 255,
+                1..=100 => 0,
+                _ => random.pick(&[1, 7, 8, 9, 16, 17, 30]),
+            };
+            *vectors = if stream == 0 || stage == 2 { some } else { 0 };
+        }
+
+        let elements: usize = runtime[28..31].iter().map(|count| usize::from(*count)).sum();
+        // Strings, with a last zero where one is needed.
+        let words = count(random, 6, 300).max(usize::from(elements > 0 || size >= 52));
+        pieces.strings = random.bytes(4 * words);
+        for byte in &mut pieces.strings {
+            if *byte < 70 {
+                *byte = 0;
+            } else {
+                *byte = b'A' + *byte % 26;
+            }
+        }
+        if words > 0 && pieces.strings.iter().all(|byte| *byte != 0) {
+            let at = random.below(4 * words);
+            pieces.strings[at] = 0;
+        }
+        // Index arrays end to end, or numbers that may be read as counts.
+        let arrays = count(random, 4, 60).max(usize::from(elements > 0));
+        for _ in 0..arrays {
+            let numbers = random.below(4);
+            push4(&mut pieces.indices, numbers);
+            for _ in 0..numbers {
+                let number = if random.one_in(2) { random.below(6) } else { random.next() as usize };
+                push4(&mut pieces.indices, number);
+            }
+        }
+        let good = pieces.good_indices();
+        for _ in 0..elements {
+            let mut record = random.bytes(pieces.element_size);
+            let name = pieces.good_string(random);
+            put4(&mut record, 0, name);
+            let index = random.pick(&good);
+            put4(&mut record, 4, index);
+            pieces.elements.extend_from_slice(&record);
+        }
+        if size >= 52 {
+            let name = pieces.good_string(random);
+            put4(&mut runtime, 48, name);
+        }
+        pieces.masks = random.bytes(4 * mask_words(&runtime));
+        pieces.runtime = runtime;
+        pieces
+    }
+
+    /// PSV0 data in plain form.
+    pub fn plain(random: &mut Random) -> Pieces {
+        let edition = random.below(4);
+        let mut pieces = Pieces::valid_of(random, SIZES[edition]);
+        let size = if edition < 2 { 16 } else { 24 };
+        pieces.resources = pieces.stretched(&pieces.resources, pieces.resource_size, size, random);
+        pieces.resource_size = size;
+        pieces.elements = pieces.stretched(&pieces.elements, pieces.element_size, 16, random);
+        pieces.element_size = 16;
+        pieces.after.clear();
+        pieces
+    }
+
+    fn good_string(&self, random: &mut Random) -> u32 {
+        let last = self.strings.iter().rposition(|byte| *byte == 0).unwrap_or(0);
+        (if random.one_in(4) { last } else { random.below(last + 1) }) as u32
+    }
+
+    fn good_indices(&self) -> Vec<u32> {
+        let n = self.indices.len() / 4;
+        (0..n).filter(|i| i + 1 + get4(&self.indices, 4 * i) as usize <= n).map(|i| i as u32).collect()
+    }
+
+    /// Records of another size, cut or with random bytes added.
+    pub fn stretched(&self, records: &[u8], from: usize, to: usize, random: &mut Random) -> Vec<u8> {
+        let mut made = Vec::new();
+        for record in records.chunks_exact(from) {
+            made.extend_from_slice(&record[..from.min(to)]);
+            made.extend_from_slice(&random.bytes(to.saturating_sub(from)));
+        }
+        made
+    }
+
+    /// The bytes, and where each number that rules over others stands.
+    pub fn bytes(&self) -> (Vec<u8>, Vec<usize>) {
+        let mut bytes = Vec::new();
+        let mut fields = vec![0];
+        push4(&mut bytes, self.runtime.len());
+        bytes.extend_from_slice(&self.runtime);
+        fields.push(bytes.len());
+        push4(&mut bytes, self.resources.len() / self.resource_size);
+        if !self.resources.is_empty() {
+            fields.push(bytes.len());
+            push4(&mut bytes, self.resource_size);
+            bytes.extend_from_slice(&self.resources);
+        }
+        if self.runtime.len() >= 36 {
+            fields.extend([28, 32, 36]);
+            fields.push(bytes.len());
+            push4(&mut bytes, self.strings.len());
+            bytes.extend_from_slice(&self.strings);
+            fields.push(bytes.len());
+            push4(&mut bytes, self.indices.len() / 4);
+            bytes.extend_from_slice(&self.indices);
+            if !self.elements.is_empty() {
+                fields.push(bytes.len());
+                push4(&mut bytes, self.element_size);
+                for record in self.elements.chunks_exact(self.element_size) {
+                    fields.push(bytes.len());
+                    fields.push(bytes.len() + 4);
+                    bytes.extend_from_slice(record);
+                }
+            }
+            bytes.extend_from_slice(&self.masks);
+        }
+        if self.runtime.len() >= 52 {
+            fields.push(52);
+        }
+        bytes.extend_from_slice(&self.after);
+        (bytes, fields)
+    }
+
+    /// The sections as the writer takes them.
+    pub fn sections(&self) -> [&[u8]; 6] {
+        [&self.runtime, &self.resources, &self.strings, &self.indices, &self.elements, &self.masks]
+    }
+
+    /// Breaks one rule that the bytes of a section can break, keeping lengths in agreement.
+    pub fn flaw(&mut self, random: &mut Random) {
+        let later = self.runtime.len() >= 36;
+        let elements = self.elements.len() / self.element_size;
+        match random.below(10) {
+            0 if later => self.runtime[24] = random.pick(&[16, 17, 128, 255]),
+            1 if later => self.runtime[25] = random.pick(&[2, 3, 128, 255]),
+            2 if later => {
+                if self.runtime[24] == 2 {
+                    self.runtime[24] = random.pick(&[0, 1, 3, 4, 13]);
+                }
+                self.runtime[33 + random.below(3)] = random.pick(&[1, 8, 9]);
+            }
+            3 if self.runtime.len() >= 52 => {
+                let o = self.bad_string(random);
+                put4(&mut self.runtime, 48, o);
+            }
+            4 | 5 if elements > 0 => {
+                let o = self.bad_string(random);
+                let at = random.below(elements) * self.element_size;
+                put4(&mut self.elements, at, o);
+            }
+            6 | 7 if elements > 0 => {
+                let n = (self.indices.len() / 4) as u32;
+                let i = random.pick(&[n, n, n + 1, u32::MAX, n.wrapping_sub(1)]);
+                let at = random.below(elements) * self.element_size;
+                put4(&mut self.elements, at + 4, i);
+            }
+            8 if !self.indices.is_empty() => {
+                let i = random.below(self.indices.len() / 4);
+                let rest = (self.indices.len() / 4 - i) as u32;
+                let c = random.pick(&[rest, rest - 1, u32::MAX, u32::MAX - i as u32]);
+                put4(&mut self.indices, 4 * i, c);
+            }
+            9 if !self.strings.is_empty() => {
+                let from = random.below(self.strings.len());
+                self.strings[from..].iter_mut().for_each(|byte| *byte |= 1);
+            }
+            _ => return,
+        }
+        if later {
+            self.masks.resize(4 * mask_words(&self.runtime), 0x5a);
+        }
+    }
+
+    fn bad_string(&self, random: &mut Random) -> u32 {
+        let t = self.strings.len() as u32;
+        let after = self.strings.iter().rposition(|byte| *byte == 0).map_or(0, |zero| zero as u32 + 1);
+        random.pick(&[t, t, after, t + 1, t + 4, u32::MAX, 0x8000_0000])
+    }
+}
+
+/// The parts of a container, in order.
+pub type Parts = Vec<([u8; 4], Vec<u8>)>;
+
+/// Parts of which one is DXIL and one PSV0.
+pub fn parts(random: &mut Random, psv0: &[u8]) -> Parts {
+    let others = match random.below(400) {
+        0 => 94,
+        1 => random.below(95),
+        2..=200 => 0,
+        _ => random.below(5),
+    };
+    let mut parts: Parts = Vec::new();
+    for _ in 0..others {
+        let mut name: [u8; 4] = if random.one_in(2) { random.pick(&reference::KNOWN) } else { (random.next() as u32).to_le_bytes() };
+        while name == *b"DXIL" || name == *b"PSV0" || parts.iter().any(|part| part.0 == name) {
+            name = (random.next() as u32).to_le_bytes();
+        }
+        let len = random.below(9);
+        parts.push((name, random.bytes(len)));
+    }
+    let len = 1 + random.below(8);
+    let at = random.below(parts.len() + 1);
+    parts.insert(at, (*b"DXIL", random.bytes(len)));
+    let at = if random.one_in(2) { parts.len() } else { random.below(parts.len() + 1) };
+    parts.insert(at, (*b"PSV0", psv0.to_vec()));
+    parts
+}
+
+/// A container, with gaps and bytes at its end now and then, and where its ruling numbers stand.
+pub fn container(random: &mut Random, parts: &[([u8; 4], Vec<u8>)]) -> (Vec<u8>, Vec<usize>) {
+    let mut bytes = b"DXBC".to_vec();
+    bytes.extend_from_slice(&random.bytes(16));
+    bytes.extend_from_slice(&[1, 0, 0, 0, 0, 0, 0, 0]);
+    push4(&mut bytes, parts.len());
+    let mut fields = vec![0, 20, 24, 28];
+    bytes.resize(32 + 4 * parts.len(), 0);
+    for (i, (name, data)) in parts.iter().enumerate() {
+        gap(random, &mut bytes);
+        let at = bytes.len();
+        put4(&mut bytes, 32 + 4 * i, at as u32);
+        fields.extend([32 + 4 * i, at, at + 4]);
+        bytes.extend_from_slice(name);
+        push4(&mut bytes, data.len());
+        bytes.extend_from_slice(data);
+    }
+    gap(random, &mut bytes);
+    let len = bytes.len() as u32;
+    put4(&mut bytes, 24, len);
+    (bytes, fields)
+}
+
+fn gap(random: &mut Random, bytes: &mut Vec<u8>) {
+    if random.one_in(6) {
+        let len = random.below(9);
+        bytes.extend_from_slice(&random.bytes(len));
+    }
+}
+
+/// Changes bytes, words, ruling numbers or stretches in one or several places.
+pub fn damage(random: &mut Random, bytes: &mut [u8], fields: &[usize]) {
+    let times = if random.one_in(2) { 1 } else { 1 + random.below(6) };
+    for _ in 0..times {
+        if bytes.len() < 4 {
+            return;
+        }
+        match random.below(8) {
+            0 => {
+                let at = random.below(bytes.len());
+                bytes[at] = random.next() as u8;
+            }
+            1 => {
+                let at = random.below(bytes.len());
+                bytes[at] = random.pick(&[0, 1, 2, 15, 16, 127, 128, 255]);
+            }
+            2 => {
+                let at = random.below(bytes.len());
+                bytes[at] ^= 1 << random.below(8);
+            }
+            3 => {
+                let at = random.below(bytes.len() / 4) * 4;
+                edge(random, bytes, at);
+            }
+            4 => {
+                let len = 1 + random.below(12.min(bytes.len()));
+                let from = random.below(bytes.len() - len + 1);
+                let to = random.below(bytes.len() - len + 1);
+                bytes.copy_within(from..from + len, to);
+            }
+            _ => {
+                let at = random.pick(fields);
+                if at + 4 <= bytes.len() {
+                    edge(random, bytes, at);
+                }
+            }
+        }
+    }
+}
+
+/// Sets a word to a number at the edge of something.
+fn edge(random: &mut Random, bytes: &mut [u8], at: usize) {
+    let old = get4(bytes, at);
+    let len = bytes.len() as u32;
+    let number = match random.below(12) {
+        0 => old.wrapping_add(1),
+        1 => old.wrapping_sub(1),
+        2 => old.wrapping_add(4),
+        3 => old.wrapping_sub(4),
+        4 => len.wrapping_sub(random.below(16) as u32),
+        5 => len.wrapping_sub(at as u32 + 4 + random.below(3) as u32),
+        6 => u32::MAX - random.below(9) as u32,
+        7 => random.pick(&[0x7fff_ffff, 0x8000_0000, 0x4000_0000, 0x1000_0000, 0x0100_0000]),
+        8 => random.pick(&[0, 1, 3, 4, 8, 12, 15, 16, 17, 20, 24, 28, 36, 48, 52, 96, 97]),
+        9 => random.next() as u32,
+        10 => old ^ 1 << random.below(32),
+        _ => random.below(64) as u32,
+    };
+    put4(bytes, at, number);
+}
+
+/// Cuts bytes off, or adds some.
+pub fn resize(random: &mut Random, bytes: &mut Vec<u8>) {
+    if random.one_in(3) {
+        let more = 1 + random.below(12);
+        bytes.extend_from_slice(&random.bytes(more));
+    } else if random.one_in(2) {
+        let less = 1 + random.below(12);
+        bytes.truncate(bytes.len().saturating_sub(less));
+    } else {
+        let len = random.below(bytes.len() + 1);
+        bytes.truncate(len);
+    }
+}

@@ -1,0 +1,445 @@
+//! Safe calls to the proved reader and writer of DirectX shader containers and their PSV0 part.
+//!
+//! Any bytes get an answer: the value, or a [`Refusal`] with a number of document 01 and a place. Views are slices of the bytes handed in.
+//! A value that the file's edition or stage lacks is `None`.
+//!
+//! ```
+//! use qollqamir::{assemble, write_psv0, Container, Sections};
+//!
+//! let mut psv0 = [0; 64];
+//! let runtime = [0; 24];
+//! let len = write_psv0(0, Sections { runtime: &runtime, ..Sections::default() }, &mut psv0)?;
+//!
+//! let data = [b"code", &psv0[..len]].concat();
+//! let mut out = [0; 128];
+//! let len = assemble(b"DXILPSV0", &[4, len as u32], &data, &[0; 16], &mut out)?;
+//!
+//! let container = Container::open(&out[..len], 3)?;
+//! assert_eq!(container.file_edition(), 0);
+//! assert_eq!(container.part(*b"DXIL")?.data, b"code");
+//! assert_eq!(container.runtime().stage, None);
+//! assert_eq!(Container::open(&out[..31], 3).unwrap_err().to_string(), "refused 1 0");
+//! # Ok::<(), qollqamir::Refusal>(())
+//! ```
+#![deny(unsafe_code)]
+#![warn(missing_docs)]
+
+mod calls;
+
+/// The library's calls as the C header has them: plain structs that begin with a verdict.
+pub mod raw {
+    pub use crate::calls::*;
+}
+
+/// The edition of a reader or of what is written, 0 to 3; any other is refused with 25.
+pub type Edition = usize;
+
+/// The edition that [`Container::open_default`] reads as.
+pub const DEFAULT_EDITION: Edition = 1;
+
+/// A refusal: a number of document 01's table, and a place (a part or an element where the number has one, otherwise 0).
+#[derive(Clone, Copy, Debug, PartialEq, Eq, Hash)]
+pub struct Refusal {
+    /// 1 to 28.
+    pub number: u8,
+    /// The part or element, from 0.
+    pub place: usize,
+}
+
+impl std::fmt::Display for Refusal {
+    fn fmt(&self, f: &mut std::fmt::Formatter<'_>) -> std::fmt::Result {
+        write!(f, "refused {} {}", self.number, self.place)
+    }
+}
+
+impl std::error::Error for Refusal {}
+
+/// One part of a container.
+#[derive(Clone, Copy, Debug, PartialEq, Eq)]
+pub struct Part<'a> {
+    /// Its name.
+    pub name: [u8; 4],
+    /// Its number in the table, from 0.
+    pub number: usize,
+    /// Where its header starts; the data start 8 bytes later.
+    pub offset: usize,
+    /// Its data.
+    pub data: &'a [u8],
+}
+
+/// The fields of the runtime record; the stage union is [`Container::stage_union`].
+#[allow(missing_docs)]
+#[derive(Clone, Copy, Debug, PartialEq, Eq)]
+pub struct Runtime {
+    pub minimum_wave_lanes: Option<u32>,
+    pub maximum_wave_lanes: Option<u32>,
+    pub stage: Option<u32>,
+    pub uses_view_id: Option<u32>,
+    pub max_vertex_count: Option<u32>,
+    /// Patch constant or primitive vectors.
+    pub patch_vectors: Option<u32>,
+    pub mesh_topology: Option<u32>,
+    pub input_elements: Option<u32>,
+    pub output_elements: Option<u32>,
+    /// Patch constant or primitive elements.
+    pub patch_elements: Option<u32>,
+    pub input_vectors: Option<u32>,
+    /// Of streams 0 to 3.
+    pub output_vectors: [Option<u32>; 4],
+    /// X, Y, Z.
+    pub threads: [Option<u32>; 3],
+    pub entry_name_offset: Option<u32>,
+}
+
+/// A resource binding's record.
+#[allow(missing_docs)]
+#[derive(Clone, Copy, Debug, PartialEq, Eq)]
+pub struct Resource {
+    pub binding_type: Option<u32>,
+    pub space: Option<u32>,
+    pub lower_bound: Option<u32>,
+    pub upper_bound: Option<u32>,
+    pub kind: Option<u32>,
+    pub flags: Option<u32>,
+}
+
+/// A signature element's record.
+#[allow(missing_docs)]
+#[derive(Clone, Copy, Debug, PartialEq, Eq)]
+pub struct Element {
+    pub name_offset: Option<u32>,
+    pub index_reference: Option<u32>,
+    pub rows: Option<u32>,
+    pub start_row: Option<u32>,
+    pub columns: Option<u32>,
+    pub start_column: Option<u32>,
+    pub allocated: Option<u32>,
+    pub semantic_kind: Option<u32>,
+    pub component_type: Option<u32>,
+    pub interpolation: Option<u32>,
+    pub dynamic_mask: Option<u32>,
+    pub stream: Option<u32>,
+    pub reserved: Option<u32>,
+}
+
+/// The lists' lengths.
+#[derive(Clone, Copy, Debug, PartialEq, Eq)]
+pub struct Lengths {
+    /// R, in records.
+    pub resources: Option<u32>,
+    /// T, in bytes.
+    pub strings: Option<u32>,
+    /// N, in numbers.
+    pub indices: Option<u32>,
+    /// E, over all three lists.
+    pub elements: Option<u32>,
+}
+
+/// The bytes of each section, as [`write_psv0`] takes them and an opening hands them out: no counts or sizes.
+#[derive(Clone, Copy, Debug, Default, PartialEq, Eq)]
+pub struct Sections<'a> {
+    /// The runtime record, of the edition's size.
+    pub runtime: &'a [u8],
+    /// Resource records, of 16 bytes for editions 0 and 1, else 24, when written.
+    pub resources: &'a [u8],
+    /// The string table.
+    pub strings: &'a [u8],
+    /// The index table, four bytes a number.
+    pub indices: &'a [u8],
+    /// Element records, of 16 bytes when written.
+    pub elements: &'a [u8],
+    /// The masks' words.
+    pub masks: &'a [u8],
+}
+
+fn judged(verdict: raw::Verdict) -> Result<(), Refusal> {
+    match verdict.number {
+        0 => Ok(()),
+        number => Err(Refusal { number, place: verdict.place }),
+    }
+}
+
+fn value(field: raw::Field) -> Option<u32> {
+    field.set.then_some(field.value)
+}
+
+fn shown(bytes: &[u8], span: raw::Span) -> Result<&[u8], Refusal> {
+    judged(span.verdict)?;
+    Ok(&bytes[span.start..span.start + span.len])
+}
+
+fn found(bytes: &[u8], name: [u8; 4], part: raw::Found) -> Result<Part<'_>, Refusal> {
+    judged(part.verdict)?;
+    let start = part.offset + 8;
+    Ok(Part { name, number: part.number, offset: part.offset, data: &bytes[start..start + part.size] })
+}
+
+fn runtime_of(info: raw::Info) -> Runtime {
+    Runtime {
+        minimum_wave_lanes: value(info.minimum_wave_lanes),
+        maximum_wave_lanes: value(info.maximum_wave_lanes),
+        stage: value(info.stage),
+        uses_view_id: value(info.uses_view_id),
+        max_vertex_count: value(info.max_vertex_count),
+        patch_vectors: value(info.patch_vectors),
+        mesh_topology: value(info.mesh_topology),
+        input_elements: value(info.input_elements),
+        output_elements: value(info.output_elements),
+        patch_elements: value(info.patch_elements),
+        input_vectors: value(info.input_vectors),
+        output_vectors: info.output_vectors.map(value),
+        threads: info.threads.map(value),
+        entry_name_offset: value(info.entry_name_offset),
+    }
+}
+
+fn resource_of(record: raw::Resource) -> Result<Resource, Refusal> {
+    judged(record.verdict)?;
+    Ok(Resource {
+        binding_type: value(record.binding_type),
+        space: value(record.space),
+        lower_bound: value(record.lower_bound),
+        upper_bound: value(record.upper_bound),
+        kind: value(record.kind),
+        flags: value(record.flags),
+    })
+}
+
+fn element_of(record: raw::Element) -> Result<Element, Refusal> {
+    judged(record.verdict)?;
+    Ok(Element {
+        name_offset: value(record.name_offset),
+        index_reference: value(record.index_reference),
+        rows: value(record.rows),
+        start_row: value(record.start_row),
+        columns: value(record.columns),
+        start_column: value(record.start_column),
+        allocated: value(record.allocated),
+        semantic_kind: value(record.semantic_kind),
+        component_type: value(record.component_type),
+        interpolation: value(record.interpolation),
+        dynamic_mask: value(record.dynamic_mask),
+        stream: value(record.stream),
+        reserved: value(record.reserved),
+    })
+}
+
+fn lengths_of(lengths: raw::Lengths) -> Lengths {
+    Lengths {
+        resources: value(lengths.resources),
+        strings: value(lengths.strings),
+        indices: value(lengths.indices),
+        elements: value(lengths.elements),
+    }
+}
+
+/// The part table alone: refusals 1 to 9.
+pub fn table(bytes: &[u8]) -> Result<Vec<Part<'_>>, Refusal> {
+    let parts = raw::table(bytes);
+    judged(parts.verdict)?;
+    Ok((0..parts.count)
+        .map(|number| {
+            let offset = parts.offsets[number] as usize;
+            let data = &bytes[offset + 8..][..parts.sizes[number] as usize];
+            Part { name: parts.names[number].to_le_bytes(), number, offset, data }
+        })
+        .collect())
+}
+
+/// A part by its name, from the part table alone: refusals 1 to 9, then 26.
+pub fn table_part(bytes: &[u8], name: [u8; 4]) -> Result<Part<'_>, Refusal> {
+    found(bytes, name, raw::table_part(bytes, &name))
+}
+
+/// Whether a name is one of the 24 known ones.
+pub fn known(name: [u8; 4]) -> bool {
+    raw::known(&name)
+}
+
+/// Writes PSV0 data in plain form to the front of `out` and answers its length. Refusals in order: 25, 27, 2, 15 to 24, 28. A refusal
+/// leaves `out` as it was; bytes past the result stay.
+pub fn write_psv0(edition: Edition, sections: Sections<'_>, out: &mut [u8]) -> Result<usize, Refusal> {
+    let Sections { runtime, resources, strings, indices, elements, masks } = sections;
+    let written = raw::write_psv0(edition, [runtime, resources, strings, indices, elements, masks], out);
+    judged(written.verdict)?;
+    Ok(written.len)
+}
+
+/// Assembles a container at the front of `out` and answers its length. `names` has four bytes a part, `data` the parts' data end to end.
+/// Refusals in order: 27, 6, 9, 2, 28. A refusal leaves `out` as it was; bytes past the result stay.
+pub fn assemble(names: &[u8], sizes: &[u32], data: &[u8], digest: &[u8], out: &mut [u8]) -> Result<usize, Refusal> {
+    let written = raw::assemble(names, sizes, data, digest, out);
+    judged(written.verdict)?;
+    Ok(written.len)
+}
+
+const STAGE_UNION: u32 = 0;
+const ELEMENT_STRING: u32 = 1;
+const ELEMENT_ARRAY: u32 = 2;
+const ENTRY_NAME: u32 = 3;
+const MASK: u32 = 4;
+
+/// The queries that an opened container and opened PSV0 data share.
+macro_rules! queries {
+    ($runtime:ident, $resource:ident, $element:ident, $lengths:ident, $view:ident, $section:ident) => {
+        /// The bytes that were opened.
+        pub fn bytes(&self) -> &'a [u8] {
+            self.bytes
+        }
+
+        /// The edition that was asked for.
+        pub fn edition(&self) -> Edition {
+            self.edition
+        }
+
+        /// The greatest edition whose size is at most that of the runtime record.
+        pub fn file_edition(&self) -> Edition {
+            self.file_edition
+        }
+
+        /// The lesser of the file's edition and the one asked for.
+        pub fn edition_read(&self) -> Edition {
+            self.edition_read
+        }
+
+        /// The fields of the runtime record.
+        pub fn runtime(&self) -> Runtime {
+            runtime_of(raw::$runtime(self.bytes, self.edition))
+        }
+
+        /// The lists' lengths.
+        pub fn lengths(&self) -> Lengths {
+            lengths_of(raw::$lengths(self.bytes, self.edition))
+        }
+
+        /// Resource record `i`, or 26.
+        pub fn resource(&self, i: usize) -> Result<Resource, Refusal> {
+            resource_of(raw::$resource(self.bytes, self.edition, i))
+        }
+
+        /// Element record `i`, numbered over all three lists, or 26.
+        pub fn element(&self, i: usize) -> Result<Element, Refusal> {
+            element_of(raw::$element(self.bytes, self.edition, i))
+        }
+
+        /// The stage union, 16 bytes as they stand.
+        pub fn stage_union(&self) -> &'a [u8] {
+            self.view(STAGE_UNION, 0).unwrap_or(&[])
+        }
+
+        /// The name of element `i`, or 26.
+        pub fn element_string(&self, i: usize) -> Result<&'a [u8], Refusal> {
+            self.view(ELEMENT_STRING, i)
+        }
+
+        /// The bytes of the index array of element `i`, four a number, or 26.
+        pub fn element_array(&self, i: usize) -> Result<&'a [u8], Refusal> {
+            self.view(ELEMENT_ARRAY, i)
+        }
+
+        /// The entry name, or 26 where it is unset.
+        pub fn entry_name(&self) -> Result<&'a [u8], Refusal> {
+            self.view(ENTRY_NAME, 0)
+        }
+
+        /// The bytes of mask `number`, 0 to 10, or 26; one that isn't there is empty.
+        pub fn mask(&self, number: usize) -> Result<&'a [u8], Refusal> {
+            self.view(MASK, number)
+        }
+
+        /// The bytes of every section for writing again; none of one that is unset.
+        pub fn sections(&self) -> Sections<'a> {
+            let section = |number| shown(self.bytes, raw::$section(self.bytes, self.edition, number)).unwrap_or(&[]);
+            Sections {
+                runtime: section(0),
+                resources: section(1),
+                strings: section(2),
+                indices: section(3),
+                elements: section(4),
+                masks: section(5),
+            }
+        }
+
+        fn view(&self, kind: u32, number: usize) -> Result<&'a [u8], Refusal> {
+            shown(self.bytes, raw::$view(self.bytes, self.edition, kind, number))
+        }
+    };
+}
+
+/// A container that a reader of one edition accepts.
+///
+/// ```
+/// use qollqamir::{Container, Refusal};
+///
+/// assert_eq!(Container::open(b"DXBC", 3).unwrap_err(), Refusal { number: 1, place: 0 });
+/// assert_eq!(Container::open(b"DXBC", 4).unwrap_err(), Refusal { number: 25, place: 0 });
+/// ```
+#[derive(Clone, Copy, Debug, PartialEq, Eq)]
+pub struct Container<'a> {
+    bytes: &'a [u8],
+    edition: Edition,
+    part_count: usize,
+    file_edition: Edition,
+    edition_read: Edition,
+}
+
+impl<'a> Container<'a> {
+    /// Opens a container. Refusals in order: 25, 1 to 24.
+    pub fn open(bytes: &'a [u8], edition: Edition) -> Result<Self, Refusal> {
+        Self::opened(bytes, edition, raw::open(bytes, edition))
+    }
+
+    /// Opens a container at [`DEFAULT_EDITION`].
+    pub fn open_default(bytes: &'a [u8]) -> Result<Self, Refusal> {
+        Self::opened(bytes, DEFAULT_EDITION, raw::open_default(bytes))
+    }
+
+    fn opened(bytes: &'a [u8], edition: Edition, opening: raw::Opening) -> Result<Self, Refusal> {
+        judged(opening.verdict)?;
+        Ok(Container { bytes, edition, part_count: opening.parts, file_edition: opening.file_edition, edition_read: opening.edition_read })
+    }
+
+    /// The number of parts.
+    pub fn part_count(&self) -> usize {
+        self.part_count
+    }
+
+    /// A part by its name, or 26.
+    pub fn part(&self, name: [u8; 4]) -> Result<Part<'a>, Refusal> {
+        found(self.bytes, name, raw::part(self.bytes, self.edition, &name))
+    }
+
+    queries!(runtime_info, resource, element, lengths, view, section);
+}
+
+/// PSV0 data alone that a reader of one edition accepts.
+///
+/// ```
+/// use qollqamir::Psv0;
+///
+/// let mut data = [0; 32];
+/// data[0] = 24;
+/// let psv0 = Psv0::open(&data, 3)?;
+/// assert_eq!(psv0.edition_read(), 0);
+/// assert_eq!(psv0.lengths().resources, Some(0));
+/// assert_eq!(psv0.lengths().elements, None);
+/// # Ok::<(), qollqamir::Refusal>(())
+/// ```
+#[derive(Clone, Copy, Debug, PartialEq, Eq)]
+pub struct Psv0<'a> {
+    bytes: &'a [u8],
+    edition: Edition,
+    file_edition: Edition,
+    edition_read: Edition,
+}
+
+impl<'a> Psv0<'a> {
+    /// Opens PSV0 data. Refusals in order: 25, 2, 12 to 24.
+    pub fn open(bytes: &'a [u8], edition: Edition) -> Result<Self, Refusal> {
+        let opening = raw::psv0_open(bytes, edition);
+        judged(opening.verdict)?;
+        Ok(Psv0 { bytes, edition, file_edition: opening.file_edition, edition_read: opening.edition_read })
+    }
+
+    queries!(psv0_runtime_info, psv0_resource, psv0_element, psv0_lengths, psv0_view, psv0_section);
+}

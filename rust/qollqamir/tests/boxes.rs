@@ -1,0 +1,137 @@
+//! The boxes M and C of document 01 through the safe calls, and the last field of every struct.
+
+use qollqamir::*;
+
+fn refused<T>(number: u8, place: usize) -> Result<T, Refusal> {
+    Err(Refusal { number, place })
+}
+
+fn shader(psv0: &[u8]) -> Vec<u8> {
+    let mut out = vec![0xee; 60 + psv0.len()];
+    let data = [b"code", psv0].concat();
+    let len = assemble(b"DXILPSV0", &[4, psv0.len() as u32], &data, &[7; 16], &mut out).unwrap();
+    assert_eq!(len, out.len());
+    out
+}
+
+fn box_m(stated: u8, s: usize) -> Vec<u8> {
+    let mut psv0 = vec![0; 4 + s + 4];
+    psv0[0] = stated;
+    shader(&psv0)
+}
+
+fn box_c(s: usize, offset: u8) -> Vec<u8> {
+    let mut psv0 = vec![0; 4 + s];
+    psv0[0] = s as u8;
+    psv0[4 + 24] = 5;
+    psv0[4 + 44] = 9;
+    psv0[4 + 48] = offset;
+    psv0.extend_from_slice(&[0, 0, 0, 0, 8, 0, 0, 0]);
+    psv0.extend_from_slice(b"\0main\0\0\0");
+    psv0.extend_from_slice(&[0; 4]);
+    shader(&psv0)
+}
+
+#[test]
+fn box_m_is_accepted_as_edition_0() {
+    let bytes = box_m(24, 24);
+    assert_eq!(bytes.len(), 92);
+    let parts = table(&bytes).unwrap();
+    let shown: Vec<_> = parts.iter().map(|p| (&p.name, p.offset, p.data.len())).collect();
+    assert_eq!(shown, [(b"DXIL", 40, 4), (b"PSV0", 52, 32)]);
+    for edition in 0..=3 {
+        let m = Container::open(&bytes, edition).unwrap();
+        assert_eq!((m.part_count(), m.edition(), m.file_edition(), m.edition_read()), (2, edition, 0, 0));
+        assert_eq!(m.part(*b"PSV0").unwrap(), parts[1]);
+        assert_eq!(m.part(*b"HASH"), refused(26, 0));
+        assert_eq!(m.runtime().minimum_wave_lanes, Some(0));
+        assert_eq!(m.runtime().stage, None);
+        assert_eq!(m.runtime().entry_name_offset, None);
+        assert_eq!(m.lengths(), Lengths { resources: Some(0), strings: None, indices: None, elements: None });
+        assert_eq!(m.stage_union(), [0; 16]);
+        assert_eq!(m.entry_name(), refused(26, 0));
+        assert_eq!(m.mask(0), refused(26, 0));
+        assert_eq!(m.resource(0), refused(26, 0));
+        assert_eq!(m.sections(), Sections { runtime: &[0; 24], ..Sections::default() });
+        let alone = Psv0::open(parts[1].data, edition).unwrap();
+        assert_eq!(alone.runtime(), m.runtime());
+    }
+    assert_eq!(Container::open(&bytes, 4), refused(25, 0));
+    assert_eq!(Container::open(&bytes[..31], 0), refused(1, 0));
+    assert_eq!(table(&bytes[..91]), refused(5, 0));
+}
+
+#[test]
+fn other_sizes_of_m() {
+    let longer = box_m(28, 28);
+    assert_eq!(Container::open(&longer, 3).unwrap().file_edition(), 0);
+    assert_eq!(Container::open(&box_m(26, 28), 3), refused(12, 0));
+    assert_eq!(Container::open(&box_m(20, 24), 3), refused(12, 0));
+    assert_eq!(Container::open(&box_m(32, 24), 3), refused(13, 0));
+}
+
+#[test]
+fn box_c_has_an_entry_name() {
+    let bytes = box_c(52, 1);
+    assert_eq!(bytes.len(), 136);
+    let c = Container::open(&bytes, 3).unwrap();
+    assert_eq!(c.entry_name(), Ok(&b"main"[..]));
+    assert_eq!(c.runtime().threads, [Some(0), Some(0), Some(9)]);
+    assert_eq!(c.runtime().entry_name_offset, Some(1));
+    assert_eq!(c.lengths(), Lengths { resources: Some(0), strings: Some(8), indices: Some(0), elements: Some(0) });
+    assert_eq!(c.mask(10), Ok(&[][..]));
+    assert_eq!(c.mask(11), refused(26, 0));
+    let plain = Container::open_default(&bytes).unwrap();
+    assert_eq!((plain.edition(), plain.edition_read(), plain.file_edition()), (1, 1, 3));
+    assert_eq!(plain.entry_name(), refused(26, 0));
+
+    assert_eq!(Container::open(&box_c(52, 5), 3).unwrap().entry_name(), Ok(&b""[..]));
+    assert_eq!(Container::open(&box_c(52, 8), 3), refused(24, 0));
+    assert!(Container::open(&box_c(52, 8), 2).is_ok());
+    assert_eq!(Container::open(&box_c(56, 1), 3).unwrap().entry_name(), Ok(&b"main"[..]));
+}
+
+#[test]
+fn last_fields() {
+    // Two resources, one element, no vectors, so no masks.
+    let mut runtime = [0; 52];
+    runtime[24] = 13;
+    runtime[28] = 1;
+    let resources: Vec<u8> = (0..48).collect();
+    let mut elements = [0; 16];
+    elements[15] = 0x99;
+    let given =
+        Sections { runtime: &runtime, resources: &resources, strings: b"A\0\0\0", indices: &[0; 4], elements: &elements, masks: &[] };
+    let mut out = [0xee; 256];
+    assert_eq!(write_psv0(3, given, &mut out[..8]), refused(28, 0));
+    assert_eq!(write_psv0(4, given, &mut out), refused(25, 0));
+    assert_eq!(write_psv0(2, given, &mut out), refused(27, 0));
+    assert_eq!(out, [0xee; 256]);
+    let len = write_psv0(3, given, &mut out).unwrap();
+    assert!(out[len..].iter().all(|byte| *byte == 0xee));
+
+    let psv0 = Psv0::open(&out[..len], 3).unwrap();
+    assert_eq!(psv0.sections(), given);
+    let resource = psv0.resource(1).unwrap();
+    assert_eq!((resource.binding_type, resource.flags), (Some(0x1b1a_1918), Some(0x2f2e_2d2c)));
+    assert_eq!(psv0.resource(2), refused(26, 0));
+    assert_eq!(psv0.element(0).unwrap().reserved, Some(0x99));
+    assert_eq!(psv0.element_string(0), Ok(&b"A"[..]));
+    assert_eq!(psv0.element_array(0), Ok(&[][..]));
+    assert_eq!(psv0.element_array(1), refused(26, 0));
+    assert_eq!(psv0.lengths().elements, Some(1));
+    assert_eq!(psv0.runtime().entry_name_offset, Some(0));
+}
+
+#[test]
+fn names_and_refused_assemblies() {
+    assert!(known(*b"VERS") && known(*b"DXBC") && !known(*b"dxil"));
+    let mut out = [0xee; 64];
+    assert_eq!(assemble(b"AAAAAAAA", &[0, 0], &[], &[0; 16], &mut out), refused(9, 1));
+    assert_eq!(assemble(b"AAAA", &[0], &[], &[0; 15], &mut out), refused(27, 0));
+    assert_eq!(assemble(b"AAAA", &[0], &[], &[0; 16], &mut out[..43]), refused(28, 0));
+    assert_eq!(out, [0xee; 64]);
+    assert_eq!(assemble(b"AAAA", &[0], &[], &[0; 16], &mut out), Ok(44));
+    assert_eq!(table_part(&out[..44], *b"AAAA").unwrap().offset, 36);
+    assert_eq!(Refusal { number: 8, place: 3 }.to_string(), "refused 8 3");
+}
