@@ -1,5 +1,6 @@
 // The opening of a whole container and the queries on its bytes, above the part table and the PSV0 reader through their promises.
 // A query gives what opening gives, 25, 1 to 9, 10, 11 and 12 to 24, then 26. Beside a refusal nothing of the file is shown.
+use part_table::Found;
 use part_table::Part;
 use part_table::Table;
 use psv0::ElementAnswer;
@@ -61,21 +62,25 @@ fn psv0_in(b: &[u8], t: Table, edition: usize) -> PsvPart
         Verdict::Refused(_, _) => no_psv0(v),
         Verdict::Accepted => {
             let n = t.count;
-            let program = part_table::part_in(t, b"DXIL");
-            if program.size == 0 {
-                return no_psv0(Verdict::Refused(10, 0));
-            }
-            let p = part_table::part_in(t, b"PSV0");
-            let found = p.verdict;
-            match found {
-                Verdict::Refused(_, _) => no_psv0(Verdict::Refused(11, 0)),
-                Verdict::Accepted => {
-                    let start = p.offset + 8;
-                    PsvPart {
-                        verdict: Verdict::Accepted,
-                        parts: n,
-                        start: start,
-                        end: start + p.size,
+            let program = part_table::find_name(&t.names, n, wire::u32_at(b"DXIL", 0));
+            match program {
+                Found::Nothing => no_psv0(Verdict::Refused(10, 0)),
+                Found::At(i) => {
+                    if t.sizes[i] == 0 {
+                        return no_psv0(Verdict::Refused(10, 0));
+                    }
+                    let found = part_table::find_name(&t.names, n, wire::u32_at(b"PSV0", 0));
+                    match found {
+                        Found::Nothing => no_psv0(Verdict::Refused(11, 0)),
+                        Found::At(k) => {
+                            let start = t.offsets[k] as usize + 8;
+                            PsvPart {
+                                verdict: Verdict::Accepted,
+                                parts: n,
+                                start: start,
+                                end: start + t.sizes[k] as usize,
+                            }
+                        }
                     }
                 }
             }

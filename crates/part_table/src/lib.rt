@@ -2,6 +2,7 @@
 use wire::Verdict;
 ghost use mathlib.Core.Path.{_≡_};
 ghost use Prim.Native.Nat.{_+_, _*_, _≤_};
+ghost use lib.Dec.{ltb};
 ghost use lib.ListN.{getD};
 ghost use Rattle.constants.specs.Name.{isKnown};
 ghost use Rattle.wire.specs.Number.{u32At};
@@ -94,10 +95,66 @@ fn empty(v: Verdict) -> Table
     }
 }
 
-// The headers of the parts, read up to the first that 8 refuses.
-fn read_headers(b: &[u8], count: usize) -> Table
+// The first of the first n names that equals x, or n.
+fn first_named(names: &[u32; 96], n: usize, x: u32) -> usize
+    requires { ⌜ n ≤ 96 ⌝ }
+    ensures { λ r. ⌜ r ≡ first (hasName (λ k. getD (now (names .entry)) k 0) x) n ⌝ }
+{
+    let mut i = 0;
+    while i < n {
+        if names[i] == x {
+            return i;
+        }
+        i += 1;
+    }
+    i
+}
+
+// The part of a table, given by its names and its count, that has a name's number. No more than 96 names are looked at.
+pub fn find_name(names: &[u32; 96], count: usize, x: u32) -> Found
+    ensures { λ r. ⌜ r ≡ foundIn (now (names .entry)) count x ⌝ }
+{
+    let n = if count < 96 { count } else { 96 };
+    let k = first_named(names, n, x);
+    if k < n { Found::At(k) } else { Found::Nothing }
+}
+
+// Whether x is one of the first n names. All n are looked at: with no way out of the loop, several are compared at once when compiled.
+fn stands(names: &[u32; 96], n: usize, x: u32) -> bool
+    requires { ⌜ n ≤ 96 ⌝ }
+    ensures { λ r. ⌜ r ≡ ltb (first (hasName (λ k. getD (now (names .entry)) k 0) x) n) n ⌝ }
+{
+    let mut hit = false;
+    let mut i = 0;
+    while i < n {
+        if names[i] == x {
+            hit = true;
+        }
+        i += 1;
+    }
+    hit
+}
+
+// No name stands twice among the first n: refusal 9.
+fn judge_names(names: &[u32; 96], n: usize) -> Verdict
+    requires { ⌜ n ≤ 96 ⌝ }
+    ensures { λ r. ⌜ r ≡ each (nameJudged (λ k. getD (now (names .entry)) k 0)) n ⌝ }
+{
+    let mut i = 0;
+    while i < n {
+        if stands(names, i, names[i]) {
+            return Verdict::Refused(9, i);
+        }
+        i += 1;
+    }
+    Verdict::Accepted
+}
+
+// The headers of the parts, read up to the first that 8 refuses; then 9. The table is filled where it stands: a copy of it costs as much
+// as reading some ten parts.
+fn read_parts(b: &[u8], count: usize) -> Table
     requires { ⌜ (count ≡ countOf (now b)) × (count ≤ 96) ⌝ }
-    ensures { λ r. ⌜ r ≡ tableIf (each (partJudged (now (b .entry))) count) (now (b .entry)) ⌝ }
+    ensures { λ r. ⌜ r ≡ tableIf (partsJudged (now (b .entry))) (now (b .entry)) ⌝ }
 {
     let len = b.len();
     let mut t = empty(Verdict::Accepted);
@@ -123,65 +180,11 @@ fn read_headers(b: &[u8], count: usize) -> Table
         t.sizes[i] = size;
         i += 1;
     }
+    let twice = judge_names(&t.names, count);
+    if let Verdict::Refused(_, _) = twice {
+        return empty(twice);
+    }
     t
-}
-
-// The first of the first n names that equals x, or n.
-fn first_named(names: &[u32; 96], n: usize, x: u32) -> usize
-    requires { ⌜ n ≤ 96 ⌝ }
-    ensures { λ r. ⌜ r ≡ first (hasName (λ k. getD (now (names .entry)) k 0) x) n ⌝ }
-{
-    let mut i = 0;
-    while i < n {
-        if names[i] == x {
-            return i;
-        }
-        i += 1;
-    }
-    i
-}
-
-// The part of a table, given by its names and its count, that has a name's number. No more than 96 names are looked at.
-pub fn find_name(names: &[u32; 96], count: usize, x: u32) -> Found
-    ensures { λ r. ⌜ r ≡ foundIn (now (names .entry)) count x ⌝ }
-{
-    let n = if count < 96 { count } else { 96 };
-    let k = first_named(names, n, x);
-    if k < n { Found::At(k) } else { Found::Nothing }
-}
-
-// No name stands twice among the first n: refusal 9.
-fn judge_names(names: &[u32; 96], n: usize) -> Verdict
-    requires { ⌜ n ≤ 96 ⌝ }
-    ensures { λ r. ⌜ r ≡ each (nameJudged (λ k. getD (now (names .entry)) k 0)) n ⌝ }
-{
-    let mut i = 0;
-    while i < n {
-        if first_named(names, i, names[i]) < i {
-            return Verdict::Refused(9, i);
-        }
-        i += 1;
-    }
-    Verdict::Accepted
-}
-
-// Refusals 8 and 9, and the table.
-fn read_parts(b: &[u8], count: usize) -> Table
-    requires { ⌜ (count ≡ countOf (now b)) × (count ≤ 96) ⌝ }
-    ensures { λ r. ⌜ r ≡ tableIf (partsJudged (now (b .entry))) (now (b .entry)) ⌝ }
-{
-    let t = read_headers(b, count);
-    let v = t.verdict;
-    match v {
-        Verdict::Refused(_, _) => t,
-        Verdict::Accepted => {
-            let twice = judge_names(&t.names, count);
-            match twice {
-                Verdict::Refused(_, _) => empty(twice),
-                Verdict::Accepted => t,
-            }
-        }
-    }
 }
 
 // The part table of a container, or its refusal, 1 to 9.
@@ -189,10 +192,10 @@ pub fn read(b: &[u8]) -> Table
     ensures { λ r. ⌜ r ≡ tableOf (now (b .entry)) ⌝ }
 {
     let v = judge_header(b);
-    match v {
-        Verdict::Refused(_, _) => empty(v),
-        Verdict::Accepted => read_parts(b, wire::u32_at(b, 28) as usize),
+    if let Verdict::Refused(_, _) = v {
+        return empty(v);
     }
+    read_parts(b, wire::u32_at(b, 28) as usize)
 }
 
 // What a refused lookup shows.

@@ -1,0 +1,442 @@
+// Measures Qollqamir beside LLVM's reader (with -DWITH_LLVM), the independent reader and plain passes over the same bytes.
+// Contenders of a row take turns, round by round. A time is the median of the rounds; a ratio is the median of the rounds' ratios, which a
+// machine that slows down for a while disturbs less.
+#include "qollqamir.h"
+#include <algorithm>
+#include <chrono>
+#include <cstdio>
+#include <cstdlib>
+#include <cstring>
+#include <filesystem>
+#include <fstream>
+#include <functional>
+#include <iterator>
+#include <string>
+#include <vector>
+#ifdef WITH_LLVM
+#include "llvm/Object/DXContainer.h"
+#endif
+
+extern "C" {
+uint8_t reference_open(const uint8_t *, size_t, size_t);
+uint8_t reference_table(const uint8_t *, size_t);
+uint8_t reference_string(const uint8_t *, size_t, size_t, size_t);
+uint8_t reference_write_psv0(size_t, const uint8_t *const *, const size_t *, uint8_t *, size_t);
+uint8_t reference_assemble(const uint8_t *, const uint32_t *, size_t, const uint8_t *, size_t, const uint8_t *, uint8_t *, size_t);
+uint32_t pass_bytewise(const uint8_t *, size_t);
+uint32_t pass_vectorized(const uint8_t *, size_t);
+}
+
+using Bytes = std::vector<uint8_t>;
+using Call = std::function<void(size_t)>;
+
+static int rounds = 15;
+static double round_ns = 2e6;
+
+static void require(bool holds, const std::string &what) {
+    if (!holds) {
+        fprintf(stderr, "bench: %s\n", what.c_str());
+        exit(1);
+    }
+}
+
+// Runs a call n times. What it answers is kept from the optimizer.
+template <class F> static Call repeat(F f) {
+    return [f](size_t n) {
+        for (size_t i = 0; i < n; i++) {
+            auto answer = f();
+            asm volatile("" : : "r"(&answer) : "memory");
+        }
+    };
+}
+
+static double once(const Call &call, size_t n) {
+    auto start = std::chrono::steady_clock::now();
+    call(n);
+    return std::chrono::duration<double, std::nano>(std::chrono::steady_clock::now() - start).count();
+}
+
+static double median(std::vector<double> x) {
+    if (x.empty())
+        return -1;
+    std::sort(x.begin(), x.end());
+    return x[x.size() / 2];
+}
+
+// The rounds of each call in nanoseconds a call; a missing call has none.
+struct Times {
+    std::vector<std::vector<double>> rounds;
+
+    double operator[](size_t c) const { return median(rounds[c]); }
+    double ratio(size_t a, size_t b) const {
+        std::vector<double> all;
+        for (size_t r = 0; r < std::min(rounds[a].size(), rounds[b].size()); r++)
+            all.push_back(rounds[a][r] / rounds[b][r]);
+        return median(all);
+    }
+};
+
+static Times measure(const std::vector<Call> &calls) {
+    std::vector<size_t> times(calls.size(), 0);
+    Times all{std::vector<std::vector<double>>(calls.size())};
+    for (size_t c = 0; c < calls.size(); c++) {
+        if (!calls[c])
+            continue;
+        size_t n = 1;
+        while (once(calls[c], n) < round_ns && n < (1u << 24))
+            n *= 2;
+        times[c] = n;
+    }
+    for (int r = 0; r < rounds; r++)
+        for (size_t c = 0; c < calls.size(); c++)
+            if (calls[c])
+                all.rounds[c].push_back(once(calls[c], times[c]) / times[c]);
+    return all;
+}
+
+static void cell(double x) {
+    if (x < 0)
+        printf(" %11s", "-");
+    else
+        printf(x < 1000 ? " %11.1f" : " %11.0f", x);
+}
+
+static void ratio(double x) {
+    if (x < 0)
+        printf(" %9s", "-");
+    else
+        printf(" %9.*f", x < 0.01 ? 5 : 2, x);
+}
+
+// ---- containers
+
+static Bytes load(const std::filesystem::path &path) {
+    std::ifstream in(path, std::ios::binary);
+    return Bytes(std::istreambuf_iterator<char>(in), {});
+}
+
+static void put(Bytes &b, size_t at, uint32_t n) {
+    for (int k = 0; k < 4; k++)
+        b[at + k] = uint8_t(n >> 8 * k);
+}
+
+static void append(Bytes &b, uint32_t n) {
+    b.resize(b.size() + 4);
+    put(b, b.size() - 4, n);
+}
+
+// What the assembler takes.
+struct Parts {
+    Bytes names, data, digest = Bytes(16, 0);
+    std::vector<uint32_t> sizes;
+
+    void add(const char *name, const Bytes &bytes) {
+        names.insert(names.end(), name, name + 4);
+        sizes.push_back(uint32_t(bytes.size()));
+        data.insert(data.end(), bytes.begin(), bytes.end());
+    }
+    qollqamir_written into(Bytes &out) const {
+        return qollqamir_assemble(names.data(), names.size(), sizes.data(), sizes.size(), data.data(), data.size(), digest.data(), 16,
+                                  out.data(), out.size());
+    }
+    Bytes container() const {
+        Bytes out(data.size() + 16 * sizes.size() + 64);
+        auto w = into(out);
+        require(w.verdict.number == 0, "a container could not be assembled");
+        out.resize(w.len);
+        return out;
+    }
+};
+
+static Parts parts_of(const Bytes &b) {
+    Parts p;
+    auto t = qollqamir_table(b.data(), b.size());
+    for (size_t i = 0; i < t.count; i++) {
+        char name[4];
+        memcpy(name, &t.names[i], 4);
+        auto data = b.begin() + t.offsets[i] + 8;
+        p.add(name, Bytes(data, data + t.sizes[i]));
+    }
+    std::copy(b.begin() + 4, b.begin() + 20, p.digest.begin());
+    return p;
+}
+
+static Bytes with_psv0(const Bytes &psv0) {
+    Parts p;
+    p.add("DXIL", Bytes(4, 1));
+    p.add("PSV0", psv0);
+    return p.container();
+}
+
+// PSV0 data of edition 3, a pixel shader: resource records, elements with these references, strings and indices.
+static Bytes psv0_of(uint32_t resources, uint32_t elements, uint32_t name, const Bytes &strings, uint32_t indices) {
+    Bytes b;
+    append(b, 52);
+    b.resize(56, 0);
+    for (uint32_t k = 0; k < 3; k++)
+        b[4 + 28 + k] = uint8_t(elements / 3);
+    put(b, 4 + 48, name);
+    append(b, resources);
+    if (resources)
+        append(b, 24);
+    b.resize(b.size() + 24 * size_t(resources), 0);
+    append(b, uint32_t(strings.size()));
+    b.insert(b.end(), strings.begin(), strings.end());
+    append(b, indices);
+    b.resize(b.size() + 4 * size_t(indices), 0);
+    if (elements)
+        append(b, 16);
+    for (uint32_t e = 0; e < elements; e++) {
+        append(b, name + e % 8);
+        append(b, 0);
+        append(b, 0);
+        append(b, 0);
+    }
+    return b;
+}
+
+// ---- calls
+
+static Call open_at(const Bytes &b, size_t edition) {
+    return repeat([&b, edition] { return qollqamir_open(b.data(), b.size(), edition); });
+}
+
+static Call reference_at(const Bytes &b, size_t edition) {
+    return repeat([&b, edition] { return reference_open(b.data(), b.size(), edition); });
+}
+
+static Call string_of(const Bytes &b, size_t i) {
+    return repeat([&b, i] { return qollqamir_view(b.data(), b.size(), 3, QOLLQAMIR_ELEMENT_STRING, i); });
+}
+
+static Call llvm_create(const Bytes &b) {
+#ifdef WITH_LLVM
+    llvm::MemoryBufferRef ref(llvm::StringRef(reinterpret_cast<const char *>(b.data()), b.size()), "");
+    auto opened = llvm::object::DXContainer::create(ref);
+    require(bool(opened), "LLVM refuses a container");
+    return [ref](size_t n) {
+        for (size_t i = 0; i < n; i++) {
+            auto answer = llvm::object::DXContainer::create(ref);
+            bool good = bool(answer);
+            asm volatile("" : : "r"(&answer), "r"(good) : "memory");
+        }
+    };
+#else
+    (void)b;
+    return nullptr;
+#endif
+}
+
+// ---- tables
+
+struct Row {
+    std::string name;
+    std::vector<Call> calls;
+};
+
+static void real_shaders(const std::filesystem::path &folder) {
+    std::vector<std::filesystem::path> paths;
+    for (auto &entry : std::filesystem::directory_iterator(folder))
+        paths.push_back(entry.path());
+    std::sort(paths.begin(), paths.end());
+    // For each row and shader: the times of Qollqamir, the independent reader and LLVM, and the two ratios.
+    std::vector<std::string> names;
+    std::vector<std::vector<std::vector<double>>> found;
+    size_t files = 0;
+    for (auto &path : paths) {
+        Bytes shipped = load(path);
+        if (qollqamir_open(shipped.data(), shipped.size(), 3).verdict.number != 0)
+            continue;
+        files++;
+        Parts p = parts_of(shipped);
+        Bytes b = p.container();
+        require(qollqamir_open(b.data(), b.size(), 3).verdict.number == 0, "a realigned shader does not open");
+        auto opening = qollqamir_open(b.data(), b.size(), 3);
+        const uint8_t *sections[6];
+        size_t lengths[6];
+        for (uint32_t s = 0; s < 6; s++) {
+            auto span = qollqamir_section(b.data(), b.size(), 3, s);
+            sections[s] = b.data() + span.start;
+            lengths[s] = span.len;
+        }
+        auto psv0 = qollqamir_table_part(b.data(), b.size(), reinterpret_cast<const uint8_t *>("PSV0"));
+        Bytes out(psv0.size), whole(b.size());
+        size_t e = opening.edition_read;
+        auto write = [&] {
+            return qollqamir_write_psv0(e, sections[0], lengths[0], sections[1], lengths[1], sections[2], lengths[2], sections[3],
+                                        lengths[3], sections[4], lengths[4], sections[5], lengths[5], out.data(), out.size());
+        };
+        require(write().verdict.number == 0 && std::equal(out.begin(), out.end(), b.begin() + psv0.offset + 8), "PSV0 is not written again");
+        require(p.into(whole).verdict.number == 0 && whole == b, "the container is not assembled again");
+        std::vector<Row> rows = {
+            {"open, edition 3", {open_at(b, 3), reference_at(b, 3), llvm_create(b)}},
+            {"open, edition 1", {open_at(b, 1), reference_at(b, 1), llvm_create(b)}},
+            {"open, edition 3, as shipped", {open_at(shipped, 3), reference_at(shipped, 3), nullptr}},
+            {"PSV0 alone, edition 3",
+             {repeat([&] { return qollqamir_psv0_open(b.data() + psv0.offset + 8, psv0.size, 3); }), nullptr, nullptr}},
+            {"part table",
+             {repeat([&] { return qollqamir_table(b.data(), b.size()); }), repeat([&] { return reference_table(b.data(), b.size()); }),
+              nullptr}},
+            {"runtime info", {repeat([&] { return qollqamir_runtime_info(b.data(), b.size(), 3); }), reference_at(b, 3), llvm_create(b)}},
+            {"string of element 0",
+             {string_of(b, 0), repeat([&] { return reference_string(b.data(), b.size(), 3, 0); }), llvm_create(b)}},
+            {"write PSV0", {repeat(write), repeat([&] { return reference_write_psv0(e, sections, lengths, out.data(), out.size()); }), nullptr}},
+            {"assemble",
+             {repeat([&] { return p.into(whole); }), repeat([&] {
+                  return reference_assemble(p.names.data(), p.sizes.data(), p.sizes.size(), p.data.data(), p.data.size(), p.digest.data(),
+                                            whole.data(), whole.size());
+              }),
+              nullptr}},
+        };
+        for (size_t r = 0; r < rows.size(); r++) {
+            auto t = measure(rows[r].calls);
+            if (files == 1) {
+                names.push_back(rows[r].name);
+                found.emplace_back(5);
+            }
+            double values[5] = {t[0], t[1], t[2], t.ratio(0, 1), t.ratio(0, 2)};
+            for (int c = 0; c < 5; c++)
+                found[r][c].push_back(values[c]);
+        }
+    }
+    printf("\n%zu real shaders: ns a call and ratios, medians over the shaders, and the greatest ratio to LLVM\n", files);
+    printf("%-30s %11s %11s %11s %9s %9s %9s\n", "", "qollqamir", "reference", "llvm", "/ref", "/llvm", "greatest");
+    for (size_t r = 0; r < names.size(); r++) {
+        printf("%-30s", names[r].c_str());
+        for (int c = 0; c < 3; c++)
+            cell(median(found[r][c]));
+        ratio(median(found[r][3]));
+        ratio(median(found[r][4]));
+        ratio(*std::max_element(found[r][4].begin(), found[r][4].end()));
+        printf("\n");
+    }
+}
+
+static void refusals(const std::filesystem::path &shader) {
+    Bytes good = load(shader);
+    struct Case {
+        const char *name;
+        Bytes bytes;
+        size_t edition;
+        uint8_t number;
+    };
+    std::vector<Case> cases(5, Case{"", good, 3, 0});
+    cases[0].name = "31 bytes", cases[0].bytes.resize(31), cases[0].number = 1;
+    cases[1].name = "wrong magic", cases[1].bytes[3] ^= 1, cases[1].number = 3;
+    cases[2].name = "size field", cases[2].bytes[24] ^= 1, cases[2].number = 5;
+    cases[3].name = "97 parts", put(cases[3].bytes, 28, 97), cases[3].number = 6;
+    cases[4].name = "edition 4", cases[4].edition = 4, cases[4].number = 25;
+    printf("\nearly refusals, ns a call (target: at most 20)\n");
+    printf("%-30s %11s %11s %11s %11s\n", "", "open", "info", "table", "ref. open");
+    for (auto &c : cases) {
+        const Bytes &b = c.bytes;
+        require(qollqamir_open(b.data(), b.size(), c.edition).verdict.number == c.number, c.name);
+        require(reference_open(b.data(), b.size(), c.edition) == c.number, c.name);
+        Call table = repeat([&] { return qollqamir_table(b.data(), b.size()); });
+        auto t = measure({open_at(b, c.edition), repeat([&] { return qollqamir_runtime_info(b.data(), b.size(), c.edition); }),
+                          c.edition == 3 ? table : nullptr, reference_at(b, c.edition)});
+        printf("%-30s", c.name);
+        for (size_t k = 0; k < 4; k++)
+            cell(t[k]);
+        printf("\n");
+    }
+}
+
+static Bytes many_parts(size_t data) {
+    Parts p;
+    for (int i = 0; i < 94; i++) {
+        char name[8];
+        snprintf(name, sizeof name, "P%03d", i);
+        p.add(name, Bytes(data, 1));
+    }
+    p.add("DXIL", Bytes(4, 1));
+    p.add("PSV0", psv0_of(0, 0, 0, Bytes(4, 0), 0));
+    return p.container();
+}
+
+static void hostile() {
+    const uint32_t longest = 16777216, rest = 40 + 12 + 8 + 60 + 4 + 4;
+    const uint32_t text = (longest - rest - 4 - 4 - 765 * 16 - 64) / 4 * 4;
+    Bytes start(text, 'a'), end(text, 'a'), none(text, 'a');
+    start[15] = 0;
+    end[text - 1] = 0;
+    std::vector<std::pair<std::string, Bytes>> files = {
+        {"96 parts, empty", many_parts(0)},
+        {"96 parts, 16 bytes each", many_parts(16)},
+        {"96 parts, 64 bytes each", many_parts(64)},
+        {"16 MB strings, zero at start", with_psv0(psv0_of(0, 765, 0, start, 1))},
+        {"16 MB strings, zero at end", with_psv0(psv0_of(0, 765, 0, end, 1))},
+        {"16 MB strings, no zero", with_psv0(psv0_of(0, 765, 0, none, 1))},
+        {"R at its largest", with_psv0(psv0_of((longest - rest - 64) / 24, 0, 0, Bytes(4, 0), 0))},
+        {"N at its largest", with_psv0(psv0_of(0, 765, 0, Bytes(16, 0), (longest - rest - 765 * 16 - 128) / 4))},
+    };
+    double usual = round_ns;
+    round_ns = 1e6;
+    printf("\nhostile files, ns a call beside a plain pass over the same bytes (target: at most twice a plain pass)\n");
+    printf("%-30s %11s %11s %11s %11s %9s %9s %9s\n", "", "open", "string 7", "pass", "vectorized", "open", "string", "open/vec");
+    for (auto &[name, b] : files) {
+        auto verdict = qollqamir_open(b.data(), b.size(), 3).verdict;
+        require(verdict.number == reference_open(b.data(), b.size(), 3), name);
+        require(verdict.number == (name.find("no zero") == std::string::npos ? 0 : 22), name);
+        bool elements = qollqamir_view(b.data(), b.size(), 3, QOLLQAMIR_ELEMENT_STRING, 7).verdict.number == 0;
+        auto t = measure({open_at(b, 3), elements ? string_of(b, 7) : nullptr,
+                          repeat([&b = b] { return pass_bytewise(b.data(), b.size()); }),
+                          repeat([&b = b] { return pass_vectorized(b.data(), b.size()); })});
+        printf("%-30s", name.c_str());
+        for (size_t k = 0; k < 4; k++)
+            cell(t[k]);
+        ratio(t.ratio(0, 2));
+        ratio(t.ratio(1, 2));
+        ratio(t.ratio(0, 3));
+        printf("\n");
+    }
+    // Writing as much as may be written.
+    Bytes b = with_psv0(psv0_of(0, 765, 0, start, 1));
+    Parts p = parts_of(b);
+    const uint8_t *s[6];
+    size_t n[6];
+    for (uint32_t k = 0; k < 6; k++) {
+        auto span = qollqamir_section(b.data(), b.size(), 3, k);
+        s[k] = b.data() + span.start;
+        n[k] = span.len;
+    }
+    Bytes out(longest);
+    auto write = [&] {
+        return qollqamir_write_psv0(3, s[0], n[0], s[1], n[1], s[2], n[2], s[3], n[3], s[4], n[4], s[5], n[5], out.data(), out.size());
+    };
+    require(write().verdict.number == 0, "a long PSV0 is not written");
+    require(p.into(out).verdict.number == 0, "a long container is not assembled");
+    printf("\nwriting 16 MB, ns a call\n%-30s %11s %11s %11s %9s\n", "", "qollqamir", "pass", "memcpy", "/pass");
+    Call pass = repeat([&] { return pass_bytewise(b.data(), b.size()); });
+    Call copy = repeat([&] { return memcpy(out.data(), b.data(), b.size()); });
+    for (auto &[name, call] : std::vector<std::pair<const char *, Call>>{{"write PSV0", repeat(write)}, {"assemble", repeat([&] { return p.into(out); })}}) {
+        auto t = measure({call, pass, copy});
+        printf("%-30s", name);
+        for (size_t k = 0; k < 3; k++)
+            cell(t[k]);
+        ratio(t.ratio(0, 1));
+        printf("\n");
+    }
+    round_ns = usual;
+}
+
+// What handing back 1,176 bytes costs: the table of a file that the first check refuses, beside a call that hands back 40.
+static void handing_back(const std::filesystem::path &shader) {
+    Bytes b = load(shader);
+    const uint8_t *name = reinterpret_cast<const uint8_t *>("PSV0");
+    qollqamir_parts from = qollqamir_table(b.data(), b.size()), to;
+    auto t = measure({repeat([&] { return qollqamir_table(b.data(), b.size()); }),
+                      repeat([&] { return qollqamir_table_part(b.data(), b.size(), name); }),
+                      repeat([&] { return memset(&to, 0, sizeof to); }), repeat([&] { return memcpy(&to, &from, sizeof to); })});
+    printf("\nhanding back, ns a call: the table (%zu bytes) %.1f, one part of it (%zu bytes) %.1f, memset of a table %.1f, memcpy %.1f\n",
+           sizeof to, t[0], sizeof(qollqamir_found), t[1], t[2], t[3]);
+}
+
+int main(int argc, char **argv) {
+    require(argc == 2, "the folder of the real shaders is missing");
+    std::filesystem::path folder = argv[1];
+    real_shaders(folder);
+    refusals(folder / "sdl_D3D12_VertexShader_YUV.dxbc");
+    handing_back(folder / "sdl_D3D12_VertexShader_YUV.dxbc");
+    hostile();
+}
