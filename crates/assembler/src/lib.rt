@@ -1,6 +1,7 @@
 // The container assembler: from names, sizes, data end to end and a digest to a container in the caller's output.
 // Every check is made before the first byte is written.
-use part_table::Found;
+use assembler_layout::Assembly;
+use part_table_layout::Found;
 use wire::Verdict;
 ghost use mathlib.Core.Path.{_≡_};
 ghost use mathlib.Core.List.{_++_};
@@ -9,15 +10,9 @@ ghost use lib.Dec.{eqb};
 ghost use lib.ListN.{length, replicate};
 ghost use Rattle.wire.specs.Number.{u32At, le32};
 ghost use Rattle.wire.specs.Verdict.{each};
-ghost use Rattle.part_table.specs.Table.{nameJudged};
+ghost use Rattle.part_table_layout.specs.Table.{nameJudged};
 ghost use Rattle.assembler_layout.specs.Assembled.{total, roundUp, fileLength, offsetsFrom, assembled, partsRight};
-ghost use Rattle.assembler.specs.Answer.{given, answer, output, sized, Passed, headerBytes, frontBytes};
-
-// The verdict, and the container's length: 0 beside a refusal.
-pub struct Assembly {
-    pub verdict: Verdict,
-    pub len: usize,
-}
+ghost use Rattle.assembler_layout.specs.Answer.{given, answer, output, sized, Passed, headerBytes, frontBytes};
 
 // ---- checks
 

@@ -16,8 +16,8 @@ use Rattle.wire.specs.declared.Verdict.the-variants.{Accepted}
 use Rattle.wire.proofs.Choices.{both}
 use Rattle.wire.proofs.Numbers.{le32-length}
 use Rattle.wire.proofs.Verdicts.{then-accepted, check-accepted, check-then, each-accepted}
-use Rattle.part_table.specs.Table.{nameJudged}
-use Rattle.part_table.proofs.Accepted.{Fresh, name-told}
+use Rattle.part_table_layout.specs.Table.{nameJudged}
+use Rattle.part_table_layout.proofs.Accepted.{Fresh, name-told}
 use Rattle.assembler_layout.specs.Assembled.{Parts, total, partCount, sizeGiven, nameGiven, nameBytes, dataGiven, roundUp, endBefore, startOf, fileLength, offsetsFrom, partBytes, partsFrom, partsRight, assemblyJudged}
 
 -- 27

@@ -1,5 +1,9 @@
+pub mod Answers
+pub mod Checks
 pub mod Joined
 pub mod Lengths
 pub mod Places
 pub mod Reading
+pub mod Results
 pub mod RoundTrip
+pub mod Sections

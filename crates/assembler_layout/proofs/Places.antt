@@ -10,7 +10,7 @@ use lib.ListN.{length, take, drop, replicate, length-append, length-replicate}
 use lib.Seq.{take-at, drop-at, drop-drop}
 use Rattle.wire.specs.Number.{u16At, u32At, le16, le32}
 use Rattle.wire.proofs.Numbers.{le16-length, le32-length, u32-le32, u16-le16, u32-front, u32-take, u32-drop, u16-drop}
-use Rattle.part_table.specs.Table.{magic}
+use Rattle.part_table_layout.specs.Table.{magic}
 use Rattle.assembler_layout.specs.Assembled.{Parts, partCount, sizeGiven, nameGiven, nameBytes, dataGiven, endBefore, startOf, fileLength, offsetsFrom, partBytes, partsFrom, assembled}
 use Rattle.assembler_layout.proofs.Lengths.{Right, offsets-length, start-after, ends-grow, end-of-table, name-length, data-length, parts-length}
 

@@ -5,8 +5,8 @@ use mathlib.Core.Path.{_≡_, sym, _∙_}
 use mathlib.Core.List.{List}
 use native.Mathlib.Omega.{arith}
 use lib.ListN.{length}
-use Rattle.part_table.specs.Table.{countOf, offsetAt, nameAt, sizeAt, endAt, earliest}
-use Rattle.part_table.proofs.Accepted as table
+use Rattle.part_table_layout.specs.Table.{countOf, offsetAt, nameAt, sizeAt, endAt, earliest}
+use Rattle.part_table_layout.proofs.Accepted as table
 use Rattle.assembler_layout.specs.Assembled.{Parts, partCount, sizeGiven, nameGiven, endBefore, startOf, fileLength, assembled}
 use Rattle.assembler_layout.proofs.Lengths.{Sound, start-after, end-of, ends-grow, end-of-table}
 use Rattle.assembler_layout.proofs.Places.{assembled-length, magic-read, major-read, minor-read, file-size-read, count-read, offset-read, name-read, size-read}

@@ -7,8 +7,8 @@ use mathlib.Core.List.{List}
 use native.Mathlib.Omega.{arith}
 use lib.ListN.{length, take, drop, replicate}
 use Rattle.wire.specs.declared.Verdict.the-variants.{Accepted}
-use Rattle.part_table.specs.Table.{countOf, offsetAt, nameAt, sizeAt, dataAt, earliest, tableJudged}
-use Rattle.part_table.proofs.Accepted.{accepted-is}
+use Rattle.part_table_layout.specs.Table.{countOf, offsetAt, nameAt, sizeAt, dataAt, earliest, tableJudged}
+use Rattle.part_table_layout.proofs.Accepted.{accepted-is}
 use Rattle.assembler_layout.specs.Assembled.{Parts, partCount, sizeGiven, nameGiven, nameBytes, dataGiven, endBefore, startOf, fileLength, assembled, assemblyJudged}
 use Rattle.assembler_layout.proofs.Joined.{joined, joined-agree, data-joined, names-joined}
 use Rattle.assembler_layout.proofs.Lengths.{Sound, accepted-told, rounded, earliest-multiple}

@@ -7,7 +7,7 @@ use lib.ListN.{length, getD, take, drop, replicate}
 use Rattle.wire.specs.Number.{u32At, le16, le32}
 use Rattle.wire.specs.Verdict.{_then_, check, each}
 use Rattle.wire.specs.declared.Verdict.{Verdict}
-use Rattle.part_table.specs.Table.{magic, nameJudged}
+use Rattle.part_table_layout.specs.Table.{magic, nameJudged}
 
 -- "names, sizes, data end to end, and a digest"; the number of parts is the number of sizes
 pub record Parts : Type 0 where

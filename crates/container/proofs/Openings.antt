@@ -2,24 +2,24 @@
 -- Assumes nothing.
 use Prim.Native.Nat.{ℕ, _+_, _≤_, _<_}
 use mathlib.Core.Path.{_≡_, refl, sym, _∙_, ap}
-use mathlib.Core.Bool.{Bool, true, false}
+use mathlib.Core.Bool.{true, false}
 use mathlib.Core.List.{List}
 use native.Mathlib.Omega.{arith}
-use lib.Dec.{leb, ltb}
+use lib.Dec.{ltb}
 use lib.ListN.{length}
 use borrow.Author.Tests.{le-leb, lt-leb, lt-ltb, le-ltb}
 use Rattle.wire.specs.Verdict.{_then_, check}
 use Rattle.wire.specs.declared.Verdict.{Verdict}
 use Rattle.wire.specs.declared.Verdict.the-variants.{Accepted, Refused}
-use Rattle.part_table.specs.Lookup.{find, partAt, partIn, partOf}
-use Rattle.part_table.specs.Table.{countOf, offsetAt, sizeAt, tableJudged, acceptedTable, tableOf}
-use Rattle.part_table.specs.declared.Found.{Found}
-use Rattle.part_table.specs.declared.Found.the-variants.{At, Nothing}
-use Rattle.part_table.specs.declared.Part.{Part}
-use Rattle.part_table.specs.declared.Table.{Table}
-use Rattle.part_table.proofs.Accepted.{table-accepted, part-inside, accepted-told}
-use Rattle.part_table.proofs.Lookups.{find-told, part-in-file}
-use Rattle.part_table.proofs.Readings.{verdict-shown}
+use Rattle.part_table_layout.specs.Lookup.{find, partAt, partIn, partOf}
+use Rattle.part_table_layout.specs.Table.{countOf, tableJudged, tableOf}
+use Rattle.part_table_layout.specs.declared.Found.{Found}
+use Rattle.part_table_layout.specs.declared.Found.the-variants.{At, Nothing}
+use Rattle.part_table_layout.specs.declared.Part.{Part}
+use Rattle.part_table_layout.specs.declared.Table.{Table}
+use Rattle.part_table_layout.proofs.Accepted.{table-accepted, part-inside, accepted-told}
+use Rattle.part_table_layout.proofs.Lookups.{find-told, part-in-file}
+use Rattle.part_table_layout.proofs.Readings.{verdict-shown}
 use Rattle.container_layout.specs.Container.{dxil, psv0, isThere, sizeFound, beforePsv}
 use Rattle.container.specs.Opened.{startFound, psvPartOf}
 use Rattle.container.specs.declared.PsvPart.{PsvPart}

@@ -2,7 +2,7 @@
 -- Assumes nothing.
 use Prim.Native.Nat.{ℕ, _+_, _-_, _≤_, _<_}
 use mathlib.Core.Path.{_≡_, refl, sym, _∙_, ap}
-use mathlib.Core.Bool.{true, false, true≢false}
+use mathlib.Core.Bool.{true, true≢false}
 use mathlib.Core.List.{List, []}
 use native.Mathlib.Omega.{arith}
 use lib.ListN.{length, take, drop, length-drop}
@@ -13,14 +13,14 @@ use Rattle.wire.specs.Number.{u32At}
 use Rattle.wire.specs.Verdict.{_then_, check}
 use Rattle.wire.specs.declared.Verdict.{Verdict}
 use Rattle.wire.specs.declared.Verdict.the-variants.{Accepted, Refused}
-use Rattle.part_table.specs.Lookup.{find, refusedPart, partIn, partAt, partIf, partOf}
-use Rattle.part_table.specs.Table.{countOf, offsetAt, sizeAt, dataAt, tableJudged, tableOf}
-use Rattle.part_table.specs.declared.Part.{Part}
-use Rattle.part_table.specs.declared.Table.{Table}
-use Rattle.part_table.specs.declared.Found.{Found}
-use Rattle.part_table.specs.declared.Found.the-variants.{At, Nothing}
-use Rattle.part_table.proofs.Accepted.{accepted-told, part-inside}
-use Rattle.part_table.proofs.Lookups.{find-told, part-in-file}
+use Rattle.part_table_layout.specs.Lookup.{find, refusedPart, partIn, partAt, partIf, partOf}
+use Rattle.part_table_layout.specs.Table.{countOf, offsetAt, sizeAt, dataAt, tableJudged, tableOf}
+use Rattle.part_table_layout.specs.declared.Part.{Part}
+use Rattle.part_table_layout.specs.declared.Table.{Table}
+use Rattle.part_table_layout.specs.declared.Found.{Found}
+use Rattle.part_table_layout.specs.declared.Found.the-variants.{At, Nothing}
+use Rattle.part_table_layout.proofs.Accepted.{accepted-told, part-inside}
+use Rattle.part_table_layout.proofs.Lookups.{find-told, part-in-file}
 use Rattle.psv0.specs.Answers.{numberBeside, bytesBeside, bytesOf, openingOf, infoAnswerOf, resourceAnswerOf, elementAnswerOf, lengthsAnswerOf, refusedInfo, refusedResource, refusedElement, refusedLengths, refusedSpan, SpanShows}
 use Rattle.psv0.specs.declared.Opening.{Opening}
 use Rattle.psv0.specs.declared.Span.{Span}

@@ -5,11 +5,11 @@ use Rattle.constants.specs.Edition.{fileEdition}
 use Rattle.wire.specs.Number.{u32At}
 use Rattle.wire.specs.declared.Verdict.{Verdict}
 use Rattle.wire.specs.declared.Verdict.the-variants.{Accepted, Refused}
-use Rattle.part_table.specs.Lookup.{find, refusedPart, dataIf}
-use Rattle.part_table.specs.Table.{countOf, offsetAt}
-use Rattle.part_table.specs.declared.Found.{Found}
-use Rattle.part_table.specs.declared.Found.the-variants.{At, Nothing}
-use Rattle.part_table.specs.declared.Part.{Part}
+use Rattle.part_table_layout.specs.Lookup.{find, refusedPart, dataIf}
+use Rattle.part_table_layout.specs.Table.{countOf, offsetAt}
+use Rattle.part_table_layout.specs.declared.Found.{Found}
+use Rattle.part_table_layout.specs.declared.Found.the-variants.{At, Nothing}
+use Rattle.part_table_layout.specs.declared.Part.{Part}
 use Rattle.psv0.specs.Answers.{numberBeside}
 use Rattle.psv0.specs.declared.Span.{Span}
 use Rattle.psv0_layout.specs.Layout.{editionRead}

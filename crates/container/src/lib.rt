@@ -1,8 +1,8 @@
 // The opening of a whole container and the queries on its bytes, above the part table and the PSV0 reader through their promises.
 // A query gives what opening gives, 25, 1 to 9, 10, 11 and 12 to 24, then 26. Beside a refusal nothing of the file is shown.
-use part_table::Found;
-use part_table::Part;
-use part_table::Table;
+use part_table_layout::Found;
+use part_table_layout::Part;
+use part_table_layout::Table;
 use psv0::ElementAnswer;
 use psv0::InfoAnswer;
 use psv0::LengthsAnswer;
@@ -16,8 +16,8 @@ ghost use mathlib.Core.Path.{_≡_};
 ghost use Prim.Native.Nat.{_+_, _≤_};
 ghost use lib.ListN.{length, take, drop};
 ghost use Rattle.wire.specs.Number.{u32At};
-ghost use Rattle.part_table.specs.Lookup.{partIn};
-ghost use Rattle.part_table.specs.Table.{tableOf};
+ghost use Rattle.part_table_layout.specs.Lookup.{partIn};
+ghost use Rattle.part_table_layout.specs.Table.{tableOf};
 ghost use Rattle.psv0.specs.Answers.{infoAnswerOf, resourceAnswerOf, elementAnswerOf, lengthsAnswerOf, questionOf, sectionOf, bytesOf, bytesBeside, SpanShows};
 ghost use Rattle.psv0_layout.specs.Handed.{handed};
 ghost use Rattle.psv0_layout.specs.Layout.{editionRead, defaultEdition};

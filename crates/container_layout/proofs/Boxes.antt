@@ -9,8 +9,8 @@ use Rattle.wire.specs.Number.{u16At, u32At}
 use Rattle.wire.specs.Verdict.{_then_, check, when, from, each}
 use Rattle.wire.specs.declared.Verdict.{Verdict}
 use Rattle.wire.specs.declared.Verdict.the-variants.{Accepted, Refused}
-use Rattle.part_table.specs.Lookup.{find}
-use Rattle.part_table.specs.Table.{countOf, offsetAt, nameAt, sizeAt, dataAt, endAt, earliest, partJudged, nameJudged, headerJudged, partsJudged, tableJudged}
+use Rattle.part_table_layout.specs.Lookup.{find}
+use Rattle.part_table_layout.specs.Table.{countOf, offsetAt, nameAt, sizeAt, dataAt, endAt, earliest, partJudged, nameJudged, headerJudged, partsJudged, tableJudged}
 use Rattle.psv0_layout.specs.Field.{words, maskWords, sum}
 use Rattle.psv0_layout.specs.Judged.{headJudged, fieldsJudged, bodyFits, elementJudged, elementsJudged, entryJudged, judgedAt}
 use Rattle.psv0_layout.specs.Layout.{counted, afterCounted, countedFits, records, afterRecords, recordsFit, rows, sections, bodyOf, seen}

@@ -1,26 +1,25 @@
 -- What opening a container says of its PSV0 part, and what stays the same in a widening.
 -- Assumes nothing.
-use Prim.Native.Nat.{ℕ, _+_, _≤_, _<_}
+use Prim.Native.Nat.{ℕ, _≤_, _<_}
 use mathlib.Core.Path.{_≡_, refl, sym, _∙_, ap}
-use mathlib.Core.Bool.{Bool, true, false, true≢false}
-use mathlib.Core.List.{List, []}
+use mathlib.Core.Bool.{true, true≢false}
+use mathlib.Core.List.{List}
 use native.Mathlib.Omega.{arith}
 use native.Mathlib.Nat.{le-trans}
 use lib.Dec.{leb, ltb}
-use lib.ListN.{length, take, drop, length-take, length-drop}
-use borrow.Author.Tests.{le-leb, leb-true, lt-ltb}
+use lib.ListN.{length, length-take, length-drop}
+use borrow.Author.Tests.{le-leb}
 use Rattle.wire.specs.Number.{u32At}
 use Rattle.wire.specs.Verdict.{_then_, check}
-use Rattle.wire.specs.declared.Verdict.{Verdict}
 use Rattle.wire.specs.declared.Verdict.the-variants.{Accepted, Refused}
 use Rattle.wire.proofs.Searches.{first-agree}
 use Rattle.wire.proofs.Verdicts.{check-then, check-accepted, then-accepted, accepted-then, checked}
-use Rattle.part_table.specs.Lookup.{foundBelow, find}
-use Rattle.part_table.specs.Table.{hasName, countOf, offsetAt, nameAt, sizeAt, dataAt, tableJudged}
-use Rattle.part_table.specs.declared.Found.{Found}
-use Rattle.part_table.specs.declared.Found.the-variants.{At, Nothing}
-use Rattle.part_table.proofs.Accepted.{accepted-told, data-length}
-use Rattle.part_table.proofs.Lookups.{find-told}
+use Rattle.part_table_layout.specs.Lookup.{find}
+use Rattle.part_table_layout.specs.Table.{hasName, countOf, nameAt, dataAt, tableJudged}
+use Rattle.part_table_layout.specs.declared.Found.{Found}
+use Rattle.part_table_layout.specs.declared.Found.the-variants.{At, Nothing}
+use Rattle.part_table_layout.proofs.Accepted.{accepted-told, data-length}
+use Rattle.part_table_layout.proofs.Lookups.{find-told}
 use Rattle.psv0_layout.specs.Judged.{judgedAt, opened}
 use Rattle.psv0_layout.specs.Layout.{editionRead}
 use Rattle.psv0_layout.specs.Shown.{unset, Question, answered}

@@ -3,11 +3,11 @@ use mathlib.Core.Bool.{Bool, true, false}
 use mathlib.Core.List.{List, [], _∷_}
 use Prim.Native.Nat.{ℕ}
 use lib.Dec.{leb, ltb}
-use Rattle.part_table.specs.Lookup.{find, partIf}
-use Rattle.part_table.specs.Table.{sizeAt, dataAt, tableJudged}
-use Rattle.part_table.specs.declared.Found.{Found}
-use Rattle.part_table.specs.declared.Found.the-variants.{At, Nothing}
-use Rattle.part_table.specs.declared.Part.{Part}
+use Rattle.part_table_layout.specs.Lookup.{find, partIf}
+use Rattle.part_table_layout.specs.Table.{sizeAt, dataAt, tableJudged}
+use Rattle.part_table_layout.specs.declared.Found.{Found}
+use Rattle.part_table_layout.specs.declared.Found.the-variants.{At, Nothing}
+use Rattle.part_table_layout.specs.declared.Part.{Part}
 use Rattle.psv0_layout.specs.Judged.{judgedAt}
 use Rattle.psv0_layout.specs.Layout.{editionRead}
 use Rattle.psv0_layout.specs.Shown.{Value, Question, shown, beside}

@@ -3,7 +3,7 @@ use mathlib.Core.Path.{_≡_}
 use mathlib.Core.List.{List}
 use Prim.Native.Nat.{ℕ, _<_}
 use Rattle.container_layout.specs.Container.{psv0}
-use Rattle.part_table.specs.Table.{countOf, nameAt, dataAt, tableJudged}
+use Rattle.part_table_layout.specs.Table.{countOf, nameAt, dataAt, tableJudged}
 use Rattle.psv0_layout.specs.Widened.{Widening}
 use Rattle.wire.specs.declared.Verdict.the-variants.{Accepted}
 

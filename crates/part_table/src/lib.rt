@@ -1,4 +1,7 @@
 // The part table of a DirectX container: refusals 1 to 9, every part's name, header offset and data size, and lookup by name.
+use part_table_layout::Found;
+use part_table_layout::Part;
+use part_table_layout::Table;
 use wire::Verdict;
 ghost use mathlib.Core.Path.{_≡_};
 ghost use Prim.Native.Nat.{_+_, _*_, _≤_};
@@ -8,32 +11,8 @@ ghost use Rattle.constants.specs.Name.{isKnown};
 ghost use Rattle.wire.specs.Number.{u32At};
 ghost use Rattle.wire.specs.Search.{first};
 ghost use Rattle.wire.specs.Verdict.{each};
-ghost use Rattle.part_table.specs.Lookup.{foundIn, partIn, refusedPart, partOf, dataOf};
-ghost use Rattle.part_table.specs.Table.{countOf, partJudged, hasName, nameJudged, headerJudged, partsJudged, refusedTable, tableIf, tableOf};
-
-// A part table, with room for 96 parts. Entries from count on are zero; a refusal has count 0.
-// A name is its four bytes as one little-endian number.
-pub struct Table {
-    pub verdict: Verdict,
-    pub count: usize,
-    pub names: [u32; 96],
-    pub offsets: [u32; 96],
-    pub sizes: [u32; 96],
-}
-
-// The number of a part, or that there is none.
-pub enum Found {
-    At(usize),
-    Nothing,
-}
-
-// A part found by its name: its number, where its header starts and its data size. A refusal has zeros.
-pub struct Part {
-    pub verdict: Verdict,
-    pub number: usize,
-    pub offset: usize,
-    pub size: usize,
-}
+ghost use Rattle.part_table_layout.specs.Lookup.{foundIn, partIn, refusedPart, partOf, dataOf};
+ghost use Rattle.part_table_layout.specs.Table.{countOf, hasName, nameJudged, headerJudged, partsJudged, refusedTable, tableIf, tableOf};
 
 // A name's number: its four bytes, little-endian.
 pub fn name_number(name: &[u8; 4]) -> u32

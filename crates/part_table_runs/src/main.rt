@@ -1,7 +1,7 @@
 // Containers at the edges of refusals 1 to 9, and lookups: one line a case, compared with the file stdout.
 use libc::STDOUT_FILENO;
-use part_table::Found;
-use part_table::Table;
+use part_table_layout::Found;
+use part_table_layout::Table;
 use wire::Verdict;
 
 // ---- printing

@@ -14,11 +14,12 @@ use Rattle.psv0_layout.specs.Field.{elementTotal}
 use Rattle.psv0_layout.specs.Layout.{Records, guideOf, sections, seen, bodyOf, editionRead}
 use Rattle.psv0_layout.specs.Reference.{stringGood, indexGood}
 use Rattle.psv0_layout.proofs.Layouts.{WholeRecords, none, some, WholeBody}
+use Rattle.psv0_layout.proofs.Opened as opened
+use Rattle.psv0_layout.proofs.Opened.{length-most, head-accepted, edition-size, body-accepted}
 use Rattle.psv0_layout.proofs.Wholes.{head-whole, body-whole}
 use Rattle.psv0_sections.specs.Places.{headPlaces, placesOf, Placed, HeadPlaced, BodyPlaced}
 use Rattle.psv0_sections.specs.declared.Places.{Places}
-use Rattle.psv0_sections.proofs.Opening as opening
-use Rattle.psv0_sections.proofs.Opening.{verdict-is, length-most, head-accepted, edition-size, body-accepted, placed}
+use Rattle.psv0_sections.proofs.Opening.{verdict-is, placed}
 use Rattle.psv0.specs.Parts.{Reading}
 
 stride-least : {t : Records} → WholeRecords t → 1 ≤ t .count → 16 ≤ t .stride
@@ -74,9 +75,9 @@ module _ {d : List ℕ} {p : Places} (g : Reading d p) where
         → (stringGood (sections d .strings) (u32At (getD (seen 1 (sections d) .body .elements) i []) 0) ≡ true)
         × (indexGood (sections d .indices) (u32At (getD (seen 1 (sections d) .body .elements) i []) 4) ≡ true)
     unfolding seen bodyOf
-    element-good i l = opening.element-good (g .edition) d (g .accepted) later i (rw total at l)
+    element-good i l = opened.element-good (g .edition) d (g .accepted) later i (rw total at l)
 
   -- and that of the entry name
   pub entry-good : 3 ≤ p .edition → stringGood (sections d .strings) (u32At (seen 3 (sections d) .runtime) 48) ≡ true
   unfolding seen bodyOf
-  entry-good h = opening.entry-good (g .edition) d (g .accepted) (rw edition-is at h)
+  entry-good h = opened.entry-good (g .edition) d (g .accepted) (rw edition-is at h)

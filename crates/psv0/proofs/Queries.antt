@@ -21,6 +21,7 @@ use Rattle.psv0_layout.specs.Layout.{sections, seen, bodyOf, guideOf}
 use Rattle.psv0_layout.specs.Reference.{stringAt, stringGood, arrayAt, indexGood}
 use Rattle.psv0_layout.specs.Shown.{Value, unset, number, view, stageUnion, ofElement, entryName, mask, setIf, maskAt, value, shownAt}
 use Rattle.psv0_layout.proofs.Positions.{part-part, rows-length, row-at, runtime-at, runtime-u32, guide-seen}
+use Rattle.psv0_layout.proofs.References.{string-inside}
 use Rattle.psv0_sections.specs.Places.{headPlaces}
 use Rattle.psv0_sections.specs.declared.Places.{Places}
 use Rattle.psv0.specs.Answers.{fieldOf, infoOf, resourceOf, elementOf, lengthsOf, resourceAnswerOf, elementAnswerOf, SpanShows, refusedResource, refusedElement, refusedSpan}
@@ -34,7 +35,7 @@ use Rattle.psv0.specs.declared.Span.{Span}
 use Rattle.psv0.proofs.Accepted.{head, body, none-placed, short, long, resource-size, element-size}
 use Rattle.psv0.proofs.Fields.{set-from, unset-before}
 use Rattle.psv0.proofs.Shown.{info-shown, no-resource, resource-there, no-element, element-there, of-element, of-none}
-use Rattle.psv0.proofs.Spans.{answers, no-answer, stretch-length, whole-shows, part-shows, string-inside, string-shows, array-shows, from-one-shows}
+use Rattle.psv0.proofs.Spans.{answers, no-answer, stretch-length, whole-shows, part-shows, string-shows, array-shows, from-one-shows}
 
 -- a slice from a to a + n has n bytes
 pub slice-size : (a n : ℕ) → a + n - a ≡ n

@@ -3,23 +3,21 @@
 use mathlib.Core.Path.{_≡_, refl, sym, ap, _∙_}
 use mathlib.Core.Bool.{Bool, true, false}
 use mathlib.Core.List.{List, []}
-use Prim.Native.Nat.{ℕ, _+_, _-_, _*_, _≤_, _<_}
+use Prim.Native.Nat.{ℕ, _+_, _*_, _≤_, _<_}
 use native.Mathlib.Omega.{arith}
-use lib.Dec.{leb, ltb}
-use lib.ListN.{length, getD, take, drop, length-drop}
+use lib.Dec.{leb}
+use lib.ListN.{length, take, drop, length-drop}
 use lib.Seq.{length-take-le}
-use borrow.Author.Tests.{ltb-true, leb-true, leb-false}
+use borrow.Author.Tests.{leb-true, leb-false}
 use Rattle.wire.specs.Choice.{choose}
 use Rattle.wire.specs.Number.{u32At}
 use Rattle.wire.specs.Verdict.{_then_, check}
 use Rattle.wire.specs.declared.Verdict.the-variants.{Accepted, Refused}
-use Rattle.wire.proofs.Choices.{both}
 use Rattle.psv0_layout.specs.Handed.{fromOne}
-use Rattle.psv0_layout.specs.Position.{NoZero}
-use Rattle.psv0_layout.specs.Reference.{stringGood, stringAt, indexTotal, indexAt, indexGood, arrayAt}
+use Rattle.psv0_layout.specs.Reference.{stringAt, indexGood, arrayAt}
 use Rattle.psv0_layout.specs.Shown.{Value, unset, view, queried}
 use Rattle.psv0_layout.proofs.Positions.{part-part}
-use Rattle.psv0_layout.proofs.References.{string-is, index-at, array-at}
+use Rattle.psv0_layout.proofs.References.{index-inside, index-at, array-at}
 use Rattle.psv0.specs.Answers.{SpanShows, refusedSpan}
 use Rattle.psv0.specs.Parts.{acceptedSpan, SpanAnswers}
 use Rattle.psv0.specs.declared.Span.{Span}
@@ -60,22 +58,6 @@ module _ (d : List ℕ) where
     -- t is the string table, and the string at o has m bytes
     pub string-shows : (o m : ℕ) → o + m ≤ length t → stringAt t o ≡ take m (drop o t) → SpanShows d Accepted (stringAt t o) (acceptedSpan (at + o) m)
     string-shows o m h q = let l = stretch-length in rw q (part-shows o m (omega arith))
-
--- a search from o on that has passed n bytes without a zero, and stops at one or at the end
-pub string-ends : (t : List ℕ) (o n i : ℕ) → i ≡ o + n → i ≤ length t → (i < length t → getD t i 0 ≡ 0) → NoZero t o i
-    → (o + n ≤ length t) × (stringAt t o ≡ take n (drop o t))
-string-ends t o n i e h z f = let q : i - o ≡ n = omega arith in (omega arith, rw (← q) (string-is t o i (omega arith) h z f))
-
--- ---- good references
-pub string-inside : (t : List ℕ) (o : ℕ) → stringGood t o ≡ true → o < length t
-unfolding stringGood
-string-inside t o e = ltb-true o (length t) (both (ltb o (length t)) _ e .0)
-
-index-inside : (x : List ℕ) (i : ℕ) → indexGood x i ≡ true → (i < indexTotal x) × (i + 1 + indexAt x i ≤ indexTotal x)
-unfolding indexGood
-index-inside x i e =
-    let (a, b) = both (ltb i (indexTotal x)) _ e in
-    (ltb-true i (indexTotal x) a, leb-true (i + 1 + indexAt x i) (indexTotal x) b)
 
 -- the index table is n numbers from a position on
 pub array-shows : (d : List ℕ) (at n i : ℕ) → at + n * 4 ≤ length d → indexGood (take (n * 4) (drop at d)) i ≡ true

@@ -1,9 +1,12 @@
 pub mod EditionOrder
 pub mod Editions
+pub mod Judgements
 pub mod Layouts
+pub mod Masks
+pub mod Opened
 pub mod Positions
 pub mod References
 pub mod Wholes
+pub mod Widening
 pub mod Wider
 pub mod WiderReading
-pub mod Widening

@@ -15,6 +15,7 @@ use borrow.Author.Tests.{lt-ltb, le-ltb, le-leb, lt-leb, leb-true, leb-false, lt
 use Rattle.wire.specs.Number.{u32At}
 use Rattle.wire.specs.Verdict.{_then_, check, each}
 use Rattle.wire.specs.declared.Verdict.the-variants.{Accepted, Refused}
+use Rattle.wire.proofs.Choices.{both}
 use Rattle.wire.proofs.Verdicts.{each-stop, each-next}
 use Rattle.psv0_layout.specs.Judged.{elementJudged, elementsJudged}
 use Rattle.psv0_layout.specs.Layout.{Body}
@@ -112,6 +113,16 @@ string-is t o e h l z f =
     (λ a. rw (getD-drop, s) (z (omega (arith, simp length-drop at a))))
     (λ i a b q. f (o + i) (omega arith) (omega arith) (rw getD-drop at q))
 
+-- a search from o on that has passed n bytes without a zero, and stops at one or at the end
+pub string-ends : (t : List ℕ) (o n i : ℕ) → i ≡ o + n → i ≤ length t → (i < length t → getD t i 0 ≡ 0) → NoZero t o i
+    → (o + n ≤ length t) × (stringAt t o ≡ take n (drop o t))
+string-ends t o n i e h z f = let q : i - o ≡ n = omega arith in (omega arith, rw (← q) (string-is t o i (omega arith) h z f))
+
+-- a good reference lies inside
+pub string-inside : (t : List ℕ) (o : ℕ) → stringGood t o ≡ true → o < length t
+unfolding stringGood
+string-inside t o e = ltb-true o (length t) (both (ltb o (length t)) _ e .0)
+
 -- ---- index references
 module _ (x : List ℕ) (i : ℕ) where
   pub index-out : indexTotal x ≤ i → indexGood x i ≡ false
@@ -126,6 +137,13 @@ module _ (x : List ℕ) (i : ℕ) where
       go : (c : ℕ) (b : Bool) → leb c (indexTotal x - i - 1) ≡ b → leb (i + 1 + c) (indexTotal x) ≡ b
       go c true q = le-leb (i + 1 + c) (indexTotal x) (omega (arith, leb-true c (indexTotal x - i - 1) q))
       go c false q = lt-leb (i + 1 + c) (indexTotal x) (omega (arith, leb-false c (indexTotal x - i - 1) q))
+
+-- a good reference, and its array, lie inside
+pub index-inside : (x : List ℕ) (i : ℕ) → indexGood x i ≡ true → (i < indexTotal x) × (i + 1 + indexAt x i ≤ indexTotal x)
+unfolding indexGood
+index-inside x i e =
+    let (a, b) = both (ltb i (indexTotal x)) _ e in
+    (ltb-true i (indexTotal x) a, leb-true (i + 1 + indexAt x i) (indexTotal x) b)
 
 -- the index table is n numbers from position p on
 module _ (d : List ℕ) (p n i : ℕ) (h : i < n) where

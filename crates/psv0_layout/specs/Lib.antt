@@ -1,4 +1,5 @@
 pub mod Field
+pub mod Given
 pub mod Handed
 pub mod Judged
 pub mod Laid

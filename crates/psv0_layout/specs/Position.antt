@@ -6,7 +6,7 @@ use Prim.Native.Nat.{ℕ, zero, suc, _+_, _-_, _*_, _≤_, _<_}
 use lib.ListN.{length, getD}
 use Rattle.wire.specs.Number.{u32At}
 use Rattle.psv0_layout.specs.Field.{elementTotal}
-use Rattle.psv0_layout.specs.Layout.{guideOf}
+use Rattle.psv0_layout.specs.Layout.{guideOf, Body}
 
 -- past a section that stands at a position: a count, 4 bytes, and u bytes for each
 abbrev pub nextCounted : ℕ → List ℕ → ℕ → ℕ
@@ -43,3 +43,9 @@ pub record UpToLastZero (t : List ℕ) (m : ℕ) : Type 0 where
   pub inside : m ≤ length t
   pub ends : (m ≡ 0) ⊎ (getD t (m - 1) 0 ≡ 0)
   pub none : NoZero t m (length t)
+
+-- elements es that go by strings that end at m and the index table x
+pub record Judging (b : Body) (m : ℕ) (x : List ℕ) (es : List (List ℕ)) : Type 0 where
+  pub strings : UpToLastZero (b .strings) m
+  pub indices : b .indices ≡ x
+  pub elements : b .elements ≡ es

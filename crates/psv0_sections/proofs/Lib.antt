@@ -1,5 +1,3 @@
-pub mod Judgements
-pub mod Masks
 pub mod Opening
 pub mod Placing
 pub mod Reading

@@ -1,36 +1,36 @@
--- The opening, check after check, and what an accepted one tells.
+-- The opening, check after check, and where the sections of an accepted one lie.
 -- Assumes nothing.
 use Prim.Native.Nat.{ℕ, zero, suc, _+_, _-_, _*_, _≤_, _<_, min}
 use mathlib.Core.Path.{_≡_, refl, sym, _∙_, ap}
 use mathlib.Core.Bool.{Bool, true, false}
-use mathlib.Core.List.{List, []}
+use mathlib.Core.List.{List}
 use native.Mathlib.Omega.{arith}
 use native.Mathlib.Nat.{le-trans}
 use lib.Dec.{leb, ltb}
-use lib.ListN.{length, getD, take, drop}
+use lib.ListN.{length, take, drop}
 use borrow.Author.Tests.{le-leb, lt-leb, leb-true}
 use Rattle.constants.specs.Edition.{sizeOf, fileEdition}
 use Rattle.constants.proofs.Editions.{size-mono, edition-fits}
-use Rattle.wire.specs.Number.{u32At, Bytes}
+use Rattle.wire.specs.Number.{u32At}
 use Rattle.wire.specs.Verdict.{_then_, check, when, from}
 use Rattle.wire.specs.declared.Verdict.{Verdict}
 use Rattle.wire.specs.declared.Verdict.the-variants.{Accepted, Refused}
-use Rattle.wire.proofs.Verdicts.{then-accepted, check-then, check-accepted, from-accepted, each-accepted}
 use Rattle.psv0_layout.specs.Field.{elementTotal, maskBytes}
-use Rattle.psv0_layout.specs.Judged.{headJudged, fieldsJudged, bodyFits, elementJudged, elementsJudged, entryJudged, judgedAt, opened}
+use Rattle.psv0_layout.specs.Judged.{headJudged, fieldsJudged, bodyFits, elementsJudged, entryJudged, judgedAt, opened}
 use Rattle.psv0_layout.specs.Layout.{rows, guideOf, after2, sections, seen, bodyOf, editionRead}
-use Rattle.psv0_layout.specs.Position.{UpToLastZero, stringsStart}
-use Rattle.psv0_layout.specs.Reference.{stringGood, indexGood}
-use Rattle.psv0_layout.proofs.Positions.{runtime-at, runtime-u32, guide-seen, guide-byte, elements-length}
+use Rattle.psv0_layout.specs.Position.{UpToLastZero, Judging, stringsStart}
+use Rattle.psv0_layout.specs.Reference.{stringGood}
+use Rattle.psv0_layout.proofs.Opened.{head-fits, head-accepted, body-accepted}
+use Rattle.psv0_layout.proofs.Positions.{runtime-at, runtime-u32, guide-seen}
 use Rattle.psv0_layout.proofs.References.{string-good}
 use Rattle.psv0_sections.specs.Places.{noPlaces, headPlaces, bodyPlaces, placesOf, locatedOf, stretch, BodyPlaced, Placed}
-use Rattle.psv0_sections.specs.Steps.{headIf, headOf, restIf, restOf, found, HeadRead, BodyAsked, Judging}
+use Rattle.psv0_sections.specs.Steps.{headIf, headOf, restIf, restOf, found, HeadRead, BodyAsked}
 use Rattle.psv0_sections.specs.declared.Cursor.{Cursor}
 use Rattle.psv0_sections.specs.declared.Head.the-variants.{Refused as HeadRefused, Read as HeadAt}
 use Rattle.psv0_sections.specs.declared.Located.{Located}
 use Rattle.psv0_sections.specs.declared.Places.{Places}
 use Rattle.psv0_sections.specs.declared.Rest.the-variants.{Refused as RestRefused, Read as RestAt}
-use Rattle.psv0_sections.proofs.Placing.{head-fits, head-placed, body-placed}
+use Rattle.psv0_sections.proofs.Placing.{head-placed, body-placed}
 
 -- ---- references, by the places of the sections
 part : (d : List ℕ) (a n : ℕ) → take (a + n - a) (drop a d) ≡ stretch d a n
@@ -204,78 +204,6 @@ module _ (k : ℕ) (d : List ℕ) (h : k ≤ 3) (l : length d ≤ 16777216) wher
 pub verdict-is : (k : ℕ) (d : List ℕ) → locatedOf k d .verdict ≡ opened k d
 unfolding locatedOf
 verdict-is k d = refl
-
-module _ (k : ℕ) (d : List ℕ) (e : opened k d ≡ Accepted) where
-  checks : (leb k 3 ≡ true) × ((check (leb (length d) 16777216) 2 0 then judgedAt (editionRead k d) d) ≡ Accepted)
-  unfolding opened
-  checks = check-then (leb k 3) 25 0 _ e
-
-  pub edition-asked : k ≤ 3
-  edition-asked = leb-true k 3 (checks .0)
-
-  judged : (leb (length d) 16777216 ≡ true) × (judgedAt (editionRead k d) d ≡ Accepted)
-  judged = check-then (leb (length d) 16777216) 2 0 _ (checks .1)
-
-  pub length-most : length d ≤ 16777216
-  length-most = leb-true (length d) 16777216 (judged .0)
-
-  pub head-accepted : headJudged d ≡ Accepted
-  unfolding judgedAt
-  head-accepted = then-accepted _ _ (judged .1) .0
-
-  pub edition-size : sizeOf (editionRead k d) ≤ u32At d 0
-  edition-size =
-      let fits : sizeOf (fileEdition (u32At d 0)) ≤ u32At d 0 = edition-fits (u32At d 0) (head-fits d head-accepted .least) in
-      let mono : sizeOf (editionRead k d) ≤ sizeOf (fileEdition (u32At d 0)) = size-mono (editionRead k d) (fileEdition (u32At d 0)) (omega arith) in
-      le-trans mono fits
-
-  -- at an edition read of 1 or more
-  module _ (h : 1 ≤ editionRead k d) where
-    pub later-size : sizeOf 1 ≤ u32At d 0
-    later-size = le-trans (size-mono 1 (editionRead k d) h) edition-size
-
-    later-checks : (fieldsJudged (seen 1 (sections d) .runtime)
-        then bodyFits (after2 d) (elementTotal (guideOf d)) (maskBytes (guideOf d))
-        then elementsJudged (seen 1 (sections d) .body)
-        then from 3 (editionRead k d) (entryJudged (seen 3 (sections d)))) ≡ Accepted
-    unfolding judgedAt
-    later-checks = from-accepted 1 (editionRead k d) _ h (then-accepted _ _ (judged .1) .1)
-
-    pub fields-accepted : fieldsJudged (seen 1 (sections d) .runtime) ≡ Accepted
-    fields-accepted = then-accepted _ _ later-checks .0
-
-    body-checks : (bodyFits (after2 d) (elementTotal (guideOf d)) (maskBytes (guideOf d))
-        then elementsJudged (seen 1 (sections d) .body)
-        then from 3 (editionRead k d) (entryJudged (seen 3 (sections d)))) ≡ Accepted
-    body-checks = then-accepted _ _ later-checks .1
-
-    pub body-accepted : bodyFits (after2 d) (elementTotal (guideOf d)) (maskBytes (guideOf d)) ≡ Accepted
-    body-accepted = then-accepted _ _ body-checks .0
-
-    pub elements-most : Bytes d → elementTotal (guideOf d) ≤ 765
-    elements-most b =
-        let b28 : getD (guideOf d) 28 0 < 256 = rw (guide-byte d 28 later-size (omega arith)) (b .below 32) in
-        let b29 : getD (guideOf d) 29 0 < 256 = rw (guide-byte d 29 later-size (omega arith)) (b .below 33) in
-        let b30 : getD (guideOf d) 30 0 < 256 = rw (guide-byte d 30 later-size (omega arith)) (b .below 34) in
-        omega arith
-
-    reference-checks : (elementsJudged (seen 1 (sections d) .body) ≡ Accepted) × (from 3 (editionRead k d) (entryJudged (seen 3 (sections d))) ≡ Accepted)
-    reference-checks = then-accepted _ _ (then-accepted _ _ body-checks .1)
-
-    -- both references of element i are good
-    pub element-good : (i : ℕ) → i < elementTotal (guideOf d)
-        → (stringGood (seen 1 (sections d) .body .strings) (u32At (getD (seen 1 (sections d) .body .elements) i []) 0) ≡ true)
-        × (indexGood (seen 1 (sections d) .body .indices) (u32At (getD (seen 1 (sections d) .body .elements) i []) 4) ≡ true)
-    unfolding elementsJudged elementJudged
-    element-good i l =
-        let inside : i < length (seen 1 (sections d) .body .elements) = rw (elements-length d) l in
-        let (a, v) = check-then _ 22 i _ (each-accepted _ _ i (reference-checks .0) inside) in
-        (a, check-accepted _ 23 i v)
-
-  -- the entry name's reference is good
-  pub entry-good : 3 ≤ editionRead k d → stringGood (seen 3 (sections d) .body .strings) (u32At (seen 3 (sections d) .runtime) 48) ≡ true
-  unfolding entryJudged
-  entry-good h = check-accepted _ 24 0 (from-accepted 3 (editionRead k d) _ h (reference-checks (le-trans (omega arith) h) .1))
 
 -- each section lies where the places of an accepted opening say
 pub places-later : (er : ℕ) (d : List ℕ) → 1 ≤ er → placesOf er d ≡ bodyPlaces er d

@@ -9,7 +9,7 @@ use native.Mathlib.Nat.{zero-mul, mul-one, add-zero}
 use lib.Dec.{leb, eqb}
 use lib.ListN.{length, take, drop}
 use lib.Seq.{drop-drop}
-use borrow.Author.Tests.{leb-true, eqb-true}
+use borrow.Author.Tests.{leb-true}
 use Rattle.wire.specs.Number.{u32At}
 use Rattle.wire.specs.declared.Verdict.the-variants.{Accepted}
 use Rattle.wire.proofs.Choices.{both}
@@ -18,7 +18,8 @@ use Rattle.psv0_layout.specs.Field.{elementTotal, maskBytes}
 use Rattle.psv0_layout.specs.Judged.{headJudged, bodyFits}
 use Rattle.psv0_layout.specs.Layout.{counted, records, recordsFit, guideOf, after2, sections}
 use Rattle.psv0_layout.specs.Position.{nextRecords, resourcesStart, stringsStart, indicesStart, elementsStart, masksStart}
-use Rattle.psv0_layout.proofs.Positions.{drop-u32, nextRecords-inside, recordsFit-at, resources-at, strings-at, indices-at, elements-at, masks-at, headJudged-at, bodyFits-at}
+use Rattle.psv0_layout.proofs.Opened.{head-fits}
+use Rattle.psv0_layout.proofs.Positions.{drop-u32, nextRecords-inside, recordsFit-at, resources-at, strings-at, indices-at, elements-at, masks-at, bodyFits-at}
 use Rattle.psv0_layout.proofs.Wholes.{records-count}
 use Rattle.psv0_sections.specs.Places.{strideAt, firstRecord, headPlaces, bodyPlaces, HeadPlaced, BodyPlaced}
 
@@ -47,53 +48,6 @@ records-enough (suc n) at d e h =
     leb-true 16 _ (both (leb (at + 4) (length d) && eqb (u32At d at % 4) 0) _ a .1)
 
 -- ---- sections 1 and 2
--- what the checks of sections 1 and 2 tell
-pub record HeadFits (d : List ℕ) : Type 0 where
-  pub four : u32At d 0 % 4 ≡ 0
-  pub least : 24 ≤ u32At d 0
-  pub runtime : 4 + u32At d 0 ≤ length d
-  pub count : resourcesStart d + 4 ≤ length d
-  pub records : recordsFit (u32At d (resourcesStart d)) (drop (resourcesStart d + 4) d) ≡ true
-  pub end : stringsStart d ≤ length d
-
-module _ (d : List ℕ) where
-  runtime-inside : resourcesStart d ≤ length d → 4 + u32At d 0 ≤ length d
-  unfolding resourcesStart
-  runtime-inside h = omega arith
-
-  resources-inside : resourcesStart d + 4 ≤ length d → recordsFit (u32At d (resourcesStart d)) (drop (resourcesStart d + 4) d) ≡ true
-      → stringsStart d ≤ length d
-  unfolding stringsStart
-  resources-inside h f = nextRecords-inside d (resourcesStart d + 4) _ h f
-
-  strings-inside : indicesStart d ≤ length d → stringsStart d + 4 + u32At d (stringsStart d) ≤ length d
-  unfolding indicesStart
-  strings-inside h = omega arith
-
-  indices-inside : elementsStart d ≤ length d → indicesStart d + 4 + u32At d (indicesStart d) * 4 ≤ length d
-  unfolding elementsStart
-  indices-inside h = h
-
-  elements-inside : elementsStart d ≤ length d → recordsFit (elementTotal (guideOf d)) (drop (elementsStart d) d) ≡ true → masksStart d ≤ length d
-  unfolding masksStart
-  elements-inside h f = nextRecords-inside d (elementsStart d) _ h f
-
-pub head-fits : (d : List ℕ) → headJudged d ≡ Accepted → HeadFits d
-head-fits d e =
-    let (a, e1) = check-then (leb 4 (length d) && eqb (u32At d 0 % 4) 0 && leb 24 (u32At d 0)) 12 0 _ (sym (headJudged-at d) ∙ e) in
-    let (b, e2) = check-then (leb (resourcesStart d) (length d)) 13 0 _ e1 in
-    let (c, f) = both (leb (resourcesStart d + 4) (length d)) _ (check-accepted _ 14 0 e2) in
-    let (a1, least) = both (leb 4 (length d) && eqb (u32At d 0 % 4) 0) _ a in
-    let count : resourcesStart d + 4 ≤ length d = leb-true _ _ c in
-    record {
-      four = eqb-true _ _ (both (leb 4 (length d)) _ a1 .1);
-      least = leb-true _ _ least;
-      runtime = runtime-inside d (leb-true _ _ b);
-      count = count;
-      records = f;
-      end = resources-inside d count f;
-    }
-
 module _ (d : List ℕ) where
   runtime-is : take (u32At d 0) (drop 4 d) ≡ sections d .runtime
   unfolding sections counted
@@ -104,11 +58,6 @@ module _ (d : List ℕ) where
       ≡ stringsStart d
   unfolding stringsStart
   last-resource = last-record _ (resourcesStart d + 4) d
-
-  last-element : firstRecord (elementTotal (guideOf d)) (elementsStart d) + elementTotal (guideOf d) * strideAt (elementTotal (guideOf d)) d (elementsStart d)
-      ≡ masksStart d
-  unfolding masksStart
-  last-element = last-record _ (elementsStart d) d
 
 pub head-placed : (d : List ℕ) → headJudged d ≡ Accepted → HeadPlaced d (headPlaces d)
 unfolding headPlaces
@@ -127,6 +76,24 @@ head-placed d e =
     }
 
 -- ---- sections 3 to 6
+module _ (d : List ℕ) where
+  strings-inside : indicesStart d ≤ length d → stringsStart d + 4 + u32At d (stringsStart d) ≤ length d
+  unfolding indicesStart
+  strings-inside h = omega arith
+
+  indices-inside : elementsStart d ≤ length d → indicesStart d + 4 + u32At d (indicesStart d) * 4 ≤ length d
+  unfolding elementsStart
+  indices-inside h = h
+
+  elements-inside : elementsStart d ≤ length d → recordsFit (elementTotal (guideOf d)) (drop (elementsStart d) d) ≡ true → masksStart d ≤ length d
+  unfolding masksStart
+  elements-inside h f = nextRecords-inside d (elementsStart d) _ h f
+
+  last-element : firstRecord (elementTotal (guideOf d)) (elementsStart d) + elementTotal (guideOf d) * strideAt (elementTotal (guideOf d)) d (elementsStart d)
+      ≡ masksStart d
+  unfolding masksStart
+  last-element = last-record _ (elementsStart d) d
+
 pub body-placed : (er : ℕ) (d : List ℕ) → bodyFits (after2 d) (elementTotal (guideOf d)) (maskBytes (guideOf d)) ≡ Accepted → BodyPlaced d (bodyPlaces er d)
 unfolding bodyPlaces
 body-placed er d e =

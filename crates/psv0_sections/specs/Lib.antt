@@ -1,3 +1,2 @@
-pub mod Given
 pub mod Places
 pub mod Steps

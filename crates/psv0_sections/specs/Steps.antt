@@ -11,8 +11,8 @@ use Rattle.wire.specs.declared.Verdict.{Verdict}
 use Rattle.wire.specs.declared.Verdict.the-variants.{Accepted, Refused}
 use Rattle.psv0_layout.specs.Field.{elementTotal, maskBytes}
 use Rattle.psv0_layout.specs.Judged.{headJudged, bodyFits}
-use Rattle.psv0_layout.specs.Layout.{recordsFit, guideOf, after2, Body}
-use Rattle.psv0_layout.specs.Position.{resourcesStart, stringsStart, nextRecords, UpToLastZero}
+use Rattle.psv0_layout.specs.Layout.{recordsFit, guideOf, after2}
+use Rattle.psv0_layout.specs.Position.{resourcesStart, stringsStart, nextRecords}
 use Rattle.psv0_sections.specs.Places.{strideAt, firstRecord, headPlaces, bodyPlaces, placesIf}
 use Rattle.psv0_sections.specs.declared.Cursor.{Cursor}
 use Rattle.psv0_sections.specs.declared.Step.{Step}
@@ -84,9 +84,3 @@ pub record BodyAsked (er : ℕ) (d : List ℕ) (p : Places) (c : Cursor) (e m : 
   pub elements : e ≡ elementTotal (guideOf d)
   pub few : e ≤ 765
   pub masks : m ≡ maskBytes (guideOf d)
-
--- elements es that go by strings that end at m and the index table x
-pub record Judging (b : Body) (m : ℕ) (x : List ℕ) (es : List (List ℕ)) : Type 0 where
-  pub strings : UpToLastZero (b .strings) m
-  pub indices : b .indices ≡ x
-  pub elements : b .elements ≡ es

@@ -9,11 +9,11 @@ ghost use Rattle.wire.specs.Verdict.{_then_, check, from};
 ghost use Rattle.psv0_layout.specs.Field.{words, wordsIf, elementTotal, maskWords, sum, maskBytes};
 ghost use Rattle.psv0_layout.specs.Judged.{fieldsJudged, elementsJudged, entryJudged, judgedAt};
 ghost use Rattle.psv0_layout.specs.Layout.{Body, rows, sections, seen};
-ghost use Rattle.psv0_layout.specs.Position.{nextCounted, UpToLastZero};
+ghost use Rattle.psv0_layout.specs.Position.{nextCounted, UpToLastZero, Judging};
 ghost use Rattle.psv0_layout.specs.Reference.{indexGood};
-ghost use Rattle.psv0_sections.specs.Given.{sectionsJudged};
+ghost use Rattle.psv0_layout.specs.Given.{sectionsJudged};
 ghost use Rattle.psv0_sections.specs.Places.{headOnly, noPlaces, placesOf, locatedOf, BodyPlaced};
-ghost use Rattle.psv0_sections.specs.Steps.{stepTo, smallStep, tableAt, headOf, restOf, found, RuntimeRead, HeadRead, BodyAsked, Judging};
+ghost use Rattle.psv0_sections.specs.Steps.{stepTo, smallStep, tableAt, headOf, restOf, found, RuntimeRead, HeadRead, BodyAsked};
 
 // A position in PSV0 data. It is taken and handed back past each field, table and mask section.
 pub struct Cursor {

@@ -1,5 +1,6 @@
 // The PSV0 writer: from an edition and the bytes of each section to PSV0 data in the caller's output.
 // Every check is made before the first byte is written.
+use psv0_writer_layout::Written;
 use wire::Verdict;
 ghost use mathlib.Core.Path.{_≡_};
 ghost use mathlib.Core.List.{[], _++_};
@@ -7,15 +8,9 @@ ghost use Prim.Native.Nat.{_+_, _≤_};
 ghost use lib.Dec.{eqb};
 ghost use lib.ListN.{length};
 ghost use Rattle.wire.specs.Number.{le32};
-ghost use Rattle.psv0_plain.specs.Stretch.{sizeField, sizeFieldLength, headBytes, bodyBytes, headLength, bodyLength, writtenBytes, writtenLength};
-ghost use Rattle.psv0_plain.specs.Written.{resourceSize, lengthsRight};
-ghost use Rattle.psv0_writer.specs.Answer.{given, answer, Wrote, headGiven, bodyGiven, capped};
-
-// The verdict, and the length of what is written: 0 beside a refusal.
-pub struct Written {
-    pub verdict: Verdict,
-    pub len: usize,
-}
+ghost use Rattle.psv0_writer_layout.specs.Stretch.{sizeField, sizeFieldLength, headBytes, bodyBytes, headLength, bodyLength, writtenBytes, writtenLength};
+ghost use Rattle.psv0_writer_layout.specs.Written.{resourceSize, lengthsRight};
+ghost use Rattle.psv0_writer_layout.specs.Answer.{given, answer, Wrote, headGiven, bodyGiven, capped};
 
 // ---- lengths, counted no further than one past the limit: no sum can wrap
 

@@ -2,7 +2,7 @@
 // stdout. The output holds 512 bytes of 170, of which the writer is lent some.
 use libc::STDOUT_FILENO;
 use psv0_sections::Places;
-use psv0_writer::Written;
+use psv0_writer_layout::Written;
 use wire::Verdict;
 
 // ---- printing

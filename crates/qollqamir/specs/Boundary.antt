@@ -9,10 +9,10 @@ use Rattle.wire.specs.Choice.{choose}
 use Rattle.wire.specs.Verdict.{numberOf, placeOf}
 use Rattle.wire.specs.declared.Verdict.{Verdict}
 use Rattle.wire.specs.declared.Verdict.the-variants.{Accepted, Refused}
-use Rattle.assembler.specs.declared.Assembly.{Assembly}
+use Rattle.assembler_layout.specs.declared.Assembly.{Assembly}
 use Rattle.container.specs.declared.ContainerOpening.{ContainerOpening}
-use Rattle.part_table.specs.declared.Part.{Part}
-use Rattle.part_table.specs.declared.Table.{Table}
+use Rattle.part_table_layout.specs.declared.Part.{Part}
+use Rattle.part_table_layout.specs.declared.Table.{Table}
 use Rattle.psv0.specs.Answers.{bytesOf, bytesBeside, sectionOf}
 use Rattle.psv0.specs.declared.ElementAnswer.{ElementAnswer}
 use Rattle.psv0.specs.declared.Field.{Field}
@@ -28,7 +28,7 @@ use Rattle.psv0.specs.declared.View.{View}
 use Rattle.psv0.specs.declared.View.the-variants.{StageUnion, ElementString, ElementArray, EntryName, Mask}
 use Rattle.psv0_layout.specs.Handed.{handed}
 use Rattle.psv0_layout.specs.Shown.{Value, queried}
-use Rattle.psv0_writer.specs.declared.Written.{Written}
+use Rattle.psv0_writer_layout.specs.declared.Written.{Written}
 use Rattle.qollqamir.specs.declared.CVerdict.{CVerdict}
 use Rattle.qollqamir.specs.declared.CField.{CField}
 use Rattle.qollqamir.specs.declared.CTable.{CTable}

@@ -1,9 +1,9 @@
 // The library for programs in C and Rust: every public call, with plain structs for its answers. A view crosses as where it starts and its
 // length. Beside a refusal every number is 0 and no field is set. include/qollqamir.h documents each call.
-use assembler::Assembly;
+use assembler_layout::Assembly;
 use container::ContainerOpening;
-use part_table::Part;
-use part_table::Table;
+use part_table_layout::Part;
+use part_table_layout::Table;
 use psv0::ElementAnswer;
 use psv0::Field;
 use psv0::InfoAnswer;
@@ -13,22 +13,22 @@ use psv0::ResourceAnswer;
 use psv0::Section;
 use psv0::Span;
 use psv0::View;
-use psv0_writer::Written;
+use psv0_writer_layout::Written;
 use wire::Verdict;
 ghost use mathlib.Core.Path.{_≡_};
 ghost use lib.ListN.{length};
-ghost use Rattle.assembler.specs.Answer as assembly;
+ghost use Rattle.assembler_layout.specs.Answer as assembly;
 ghost use Rattle.constants.specs.Edition.{fileEdition};
 ghost use Rattle.constants.specs.Name.{isKnown};
 ghost use Rattle.container.specs.Opened.{containerOpeningOf};
 ghost use Rattle.container_layout.specs.Container.{psvOf, containerJudged, containerAnswered, containerPart};
-ghost use Rattle.part_table.specs.Lookup.{partOf};
-ghost use Rattle.part_table.specs.Table.{tableOf};
+ghost use Rattle.part_table_layout.specs.Lookup.{partOf};
+ghost use Rattle.part_table_layout.specs.Table.{tableOf};
 ghost use Rattle.psv0.specs.Answers.{openingOf, infoAnswerOf, resourceAnswerOf, elementAnswerOf, lengthsAnswerOf, questionOf, bytesOf, bytesBeside};
 ghost use Rattle.psv0_layout.specs.Judged.{opened};
 ghost use Rattle.psv0_layout.specs.Layout.{editionRead, defaultEdition};
 ghost use Rattle.psv0_layout.specs.Shown.{answered, queried};
-ghost use Rattle.psv0_writer.specs.Answer as writing;
+ghost use Rattle.psv0_writer_layout.specs.Answer as writing;
 ghost use Rattle.wire.specs.Number.{u32At};
 ghost use Rattle.qollqamir.specs.Boundary.{cVerdict, cField, cTable, cPart, cOpening, cPsvOpening, cInfo, cResource, cElement, cLengths, cSpan, cWritten, cAssembly, viewOf, sectionNumbered, sectionVerdict, sectionShown, CShows};
 

@@ -1,5 +1,5 @@
 use native.Mathlib.Omega.{arith}
-use Rattle.assembler.proofs.Answers.{kept, len-fits, passed-is, written}
+use Rattle.assembler_layout.proofs.Answers.{kept, len-fits, passed-is, written}
 use borrow.Author.Needs.{needs}
 use Rattle.assembler.proofs.assemble.Statement.{statement}
 use Rattle.assembler.proofs.assemble.Tie as tie

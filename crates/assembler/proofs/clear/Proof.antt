@@ -1,4 +1,4 @@
-use Rattle.assembler.proofs.Sections.{fill-all}
+use Rattle.assembler_layout.proofs.Sections.{fill-all}
 use Prim.Native.Nat.{_-_, _≤_}
 use mathlib.Core.Path.{_≡_, refl, _∙_}
 use mathlib.Core.List.{_++_}

@@ -1,10 +1,10 @@
 use lib.ListN.{length}
-use Rattle.assembler.proofs.Sections.{round-up-most, end-next}
+use Rattle.assembler_layout.proofs.Sections.{round-up-most, end-next}
 use Prim.Native.Nat.{_+_, _-_, _*_, _≤_}
 use mathlib.Core.Path.{_≡_, refl}
 use native.Mathlib.Omega.{arith}
 use Rattle.assembler_layout.specs.Assembled.{endBefore}
-use Rattle.assembler.specs.Answer.{sized}
+use Rattle.assembler_layout.specs.Answer.{sized}
 use borrow.Author.Needs.{needs}
 use Rattle.assembler.proofs.file_length.Statement.{statement}
 use Rattle.assembler.proofs.file_length.Tie as tie

@@ -2,8 +2,8 @@ use borrow.Author.Tests.{not-true, not-false}
 use mathlib.Core.Path.{_≡_, refl, sym, _∙_}
 use mathlib.Core.Bool.{true}
 use Rattle.assembler_layout.specs.Assembled.{Parts, fileLength, partsRight}
-use Rattle.assembler.specs.Answer.{given, sized}
-use Rattle.assembler.proofs.Checks.{not-right, too-many, name-twice, too-long, no-room, all-right, ends-agree}
+use Rattle.assembler_layout.specs.Answer.{given, sized}
+use Rattle.assembler_layout.proofs.Checks.{not-right, too-many, name-twice, too-long, no-room, all-right, ends-agree}
 use borrow.Author.Needs.{needs}
 use Rattle.assembler.proofs.judge.Statement.{statement}
 use Rattle.assembler.proofs.judge.Tie as tie

@@ -1,4 +1,4 @@
-use Rattle.assembler.proofs.Checks.{name-stood, name-fresh, name-seen}
+use Rattle.assembler_layout.proofs.Checks.{name-stood, name-fresh, name-seen}
 use Rattle.wire.proofs.Verdicts.{each-none, each-done}
 use Prim.Native.Nat.{_-_, _*_, _≤_}
 use mathlib.Core.Path.{_≡_, refl, sym}
@@ -6,7 +6,7 @@ use native.Mathlib.Omega.{arith}
 use Rattle.wire.specs.Number.{u32At}
 use Rattle.wire.specs.Verdict.{each}
 use Rattle.wire.specs.declared.Verdict.the-variants.{Accepted}
-use Rattle.part_table.specs.Table.{nameJudged, filled}
+use Rattle.part_table_layout.specs.Table.{nameJudged, filled}
 use borrow.Author.Needs.{needs}
 use Rattle.assembler.proofs.judge_names.Statement.{statement}
 use Rattle.assembler.proofs.judge_names.Tie as tie

@@ -1,6 +1,6 @@
 use native.Mathlib.Omega.{arith}
 use mathlib.Core.Path.{_∙_}
-use Rattle.assembler.proofs.Checks.{names-wrong, digest-wrong, sum-decides}
+use Rattle.assembler_layout.proofs.Checks.{names-wrong, digest-wrong, sum-decides}
 use borrow.Author.Needs.{needs}
 use Rattle.assembler.proofs.parts_right.Statement.{statement}
 use Rattle.assembler.proofs.parts_right.Tie as tie

@@ -3,7 +3,7 @@ use mathlib.Core.Path.{_≡_}
 use native.Mathlib.Omega.{arith}
 use lib.ListN.{take}
 use Rattle.assembler_layout.specs.Assembled.{total}
-use Rattle.assembler.proofs.Checks.{sum-less, sum-more, sum-all}
+use Rattle.assembler_layout.proofs.Checks.{sum-less, sum-more, sum-all}
 use borrow.Author.Needs.{needs}
 use Rattle.assembler.proofs.sums_to.Statement.{statement}
 use Rattle.assembler.proofs.sums_to.Tie as tie

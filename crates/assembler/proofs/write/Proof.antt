@@ -8,9 +8,9 @@ use lib.ListN.{length, take, drop}
 use Rattle.wire.proofs.Stretches.{Written, none-written, lent-length, written-length, written-more, front}
 use Rattle.assembler_layout.specs.Assembled.{Parts, endBefore, fileLength, total, partsFrom}
 use Rattle.assembler_layout.proofs.Lengths.{right-told}
-use Rattle.assembler.specs.Answer.{given, sized, frontBytes}
-use Rattle.assembler.proofs.Checks.{ends-agree}
-use Rattle.assembler.proofs.Sections.{PartFits, part-fits, part-lengths, front-length, table-inside, end-inside, end-next, data-next, part-more, all-parts, no-parts, assembled-is}
+use Rattle.assembler_layout.specs.Answer.{given, sized, frontBytes}
+use Rattle.assembler_layout.proofs.Checks.{ends-agree}
+use Rattle.assembler_layout.proofs.Sections.{PartFits, part-fits, part-lengths, front-length, table-inside, end-inside, end-next, data-next, part-more, all-parts, no-parts, assembled-is}
 use Rattle.assembler.proofs.write.Statement.{statement}
 use Rattle.assembler.proofs.write.Tie as tie
 

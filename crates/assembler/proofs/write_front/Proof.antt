@@ -1,10 +1,10 @@
-use Rattle.assembler.specs.Answer.{sized, frontBytes}
+use Rattle.assembler_layout.specs.Answer.{sized, frontBytes}
 use mathlib.Core.Path.{refl, _∙_}
 use native.Mathlib.Omega.{arith}
 use lib.ListN.{length}
 use Rattle.wire.proofs.Stretches.{none-written, written-more, all-written}
 use Rattle.assembler_layout.proofs.Lengths.{offsets-length}
-use Rattle.assembler.proofs.Sections.{header-length, table-inside}
+use Rattle.assembler_layout.proofs.Sections.{header-length, table-inside}
 use borrow.Author.Needs.{needs}
 use Rattle.assembler.proofs.write_front.Statement.{statement}
 use Rattle.assembler.proofs.write_front.Tie as tie

@@ -2,8 +2,8 @@ use mathlib.Core.Path.{refl, _∙_}
 use native.Mathlib.Omega.{arith}
 use Rattle.wire.specs.Number.{le16, le32}
 use Rattle.wire.proofs.Stretches.{none-written, written-copy, written-number, all-written}
-use Rattle.part_table.specs.Table.{magic}
-use Rattle.assembler.proofs.Sections.{header-is}
+use Rattle.part_table_layout.specs.Table.{magic}
+use Rattle.assembler_layout.proofs.Sections.{header-is}
 use borrow.Author.Needs.{needs}
 use Rattle.assembler.proofs.write_header.Statement.{statement}
 use Rattle.assembler.proofs.write_header.Tie as tie

@@ -4,8 +4,8 @@ use native.Mathlib.Omega.{arith}
 use borrow.Author.Needs.{needs}
 use Rattle.wire.proofs.Stretches.{Written, none-written, written-length}
 use Rattle.assembler_layout.specs.Assembled.{endBefore, offsetsFrom}
-use Rattle.assembler.specs.Answer.{sized}
-use Rattle.assembler.proofs.Sections.{StartFits, start-fits, end-next, offset-more, all-offsets}
+use Rattle.assembler_layout.specs.Answer.{sized}
+use Rattle.assembler_layout.proofs.Sections.{StartFits, start-fits, end-next, offset-more, all-offsets}
 use Rattle.assembler.proofs.write_offsets.Statement.{statement}
 use Rattle.assembler.proofs.write_offsets.Tie as tie
 

@@ -5,7 +5,7 @@ use native.Mathlib.Omega.{arith}
 use lib.ListN.{length, replicate, length-replicate}
 use Rattle.wire.specs.Number.{le32}
 use Rattle.wire.proofs.Stretches.{none-written, lent-length, written-more, written-copy, written-number, all-written}
-use Rattle.assembler.proofs.Sections.{part-is}
+use Rattle.assembler_layout.proofs.Sections.{part-is}
 use borrow.Author.Needs.{needs}
 use Rattle.assembler.proofs.write_part.Statement.{statement}
 use Rattle.assembler.proofs.write_part.Tie as tie

@@ -1,6 +1,6 @@
 use mathlib.Core.Path.{refl, sym, _∙_}
 use native.Mathlib.Omega.{arith}
-use Rattle.part_table.proofs.Lookups.{in-absent, in-found, below-96}
+use Rattle.part_table_layout.proofs.Lookups.{in-absent, in-found, below-96}
 use Rattle.container.proofs.Openings.{no-table, no-program, no-validation, short, found-psv0}
 use borrow.Author.Needs.{needs}
 use Rattle.container.proofs.psv0_in.Statement.{statement}

@@ -1,4 +1,4 @@
-use Rattle.psv0.proofs.Spans.{string-ends}
+use Rattle.psv0_layout.proofs.References.{string-ends}
 use Rattle.psv0_layout.proofs.References.{noZero-begin, noZero-on}
 use Rattle.psv0_layout.specs.Position.{NoZero}
 use native.Mathlib.Omega.{arith}

@@ -1,7 +1,7 @@
 use borrow.Author.Needs.{needs}
 use mathlib.Core.Path.{sym}
 use Rattle.psv0_layout.proofs.References.{index-out}
-use Rattle.psv0_sections.proofs.Judgements.{index-is}
+use Rattle.psv0_layout.proofs.Judgements.{index-is}
 use Rattle.psv0_sections.proofs.index_good.Statement.{statement}
 use Rattle.psv0_sections.proofs.index_good.Tie as tie
 

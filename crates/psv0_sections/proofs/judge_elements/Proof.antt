@@ -10,8 +10,8 @@ use Rattle.wire.specs.Verdict.{each}
 use Rattle.wire.specs.declared.Verdict.the-variants.{Accepted}
 use Rattle.psv0_layout.specs.Judged.{elementJudged}
 use Rattle.psv0_layout.specs.Layout.{Body, rows}
-use Rattle.psv0_sections.specs.Steps.{Judging}
-use Rattle.psv0_sections.proofs.Judgements.{stays-inside, name-22, index-23, element-passes, elements-pass}
+use Rattle.psv0_layout.specs.Position.{Judging}
+use Rattle.psv0_layout.proofs.Judgements.{stays-inside, name-22, index-23, element-passes, elements-pass}
 use Rattle.psv0_sections.proofs.judge_elements.Statement.{statement}
 use Rattle.psv0_sections.proofs.judge_elements.Tie as tie
 

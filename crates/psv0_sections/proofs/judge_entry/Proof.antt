@@ -1,5 +1,5 @@
 use borrow.Author.Needs.{needs}
-use Rattle.psv0_sections.proofs.Judgements.{entry-early, entry-24, entry-passes}
+use Rattle.psv0_layout.proofs.Judgements.{entry-early, entry-24, entry-passes}
 use Rattle.psv0_sections.proofs.judge_entry.Statement.{statement}
 use Rattle.psv0_sections.proofs.judge_entry.Tie as tie
 

@@ -1,6 +1,6 @@
 use borrow.Author.Needs.{needs}
 use native.Mathlib.Omega.{arith}
-use Rattle.psv0_sections.proofs.Judgements.{stage-15, view-16, geometry-passes, streams-17, fields-pass}
+use Rattle.psv0_layout.proofs.Judgements.{stage-15, view-16, geometry-passes, streams-17, fields-pass}
 use Rattle.psv0_sections.proofs.judge_fields.Statement.{statement}
 use Rattle.psv0_sections.proofs.judge_fields.Tie as tie
 

@@ -1,5 +1,5 @@
 use borrow.Author.Needs.{needs}
-use Rattle.psv0_sections.proofs.Judgements.{given-early, given-fields, given-elements, given-entry}
+use Rattle.psv0_layout.proofs.Judgements.{given-early, given-fields, given-elements, given-entry}
 use Rattle.psv0_sections.proofs.judge_given.Statement.{statement}
 use Rattle.psv0_sections.proofs.judge_given.Tie as tie
 

@@ -2,7 +2,7 @@ use borrow.Author.Needs.{needs}
 use native.Mathlib.Omega.{arith}
 use mathlib.Core.Path.{ap}
 use Prim.Native.Nat.{ℕ, _*_}
-use Rattle.psv0_sections.proofs.Masks.{product-few}
+use Rattle.psv0_layout.proofs.Masks.{product-few}
 use Rattle.psv0_sections.proofs.map_words.Statement.{statement}
 use Rattle.psv0_sections.proofs.map_words.Tie as tie
 

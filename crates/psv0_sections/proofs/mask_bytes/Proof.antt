@@ -1,5 +1,5 @@
 use borrow.Author.Needs.{needs}
-use Rattle.psv0_sections.proofs.Masks.{bytes-are, bytes-fit}
+use Rattle.psv0_layout.proofs.Masks.{bytes-are, bytes-fit}
 use Rattle.psv0_sections.proofs.mask_bytes.Statement.{statement}
 use Rattle.psv0_sections.proofs.mask_bytes.Tie as tie
 

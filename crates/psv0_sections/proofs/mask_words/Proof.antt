@@ -1,6 +1,6 @@
 use borrow.Author.Needs.{needs}
 use mathlib.Core.Path.{_∙_}
-use Rattle.psv0_sections.proofs.Masks.{output-some, hull-mask, domain-mask, mask-none}
+use Rattle.psv0_layout.proofs.Masks.{output-some, hull-mask, domain-mask, mask-none}
 use Rattle.psv0_sections.proofs.mask_words.Statement.{statement}
 use Rattle.psv0_sections.proofs.mask_words.Tie as tie
 

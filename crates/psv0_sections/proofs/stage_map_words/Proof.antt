@@ -1,6 +1,6 @@
 use borrow.Author.Needs.{needs}
 use mathlib.Core.Path.{_∙_}
-use Rattle.psv0_sections.proofs.Masks.{stage-none, stage-some}
+use Rattle.psv0_layout.proofs.Masks.{stage-none, stage-some}
 use Rattle.psv0_sections.proofs.stage_map_words.Statement.{statement}
 use Rattle.psv0_sections.proofs.stage_map_words.Tie as tie
 

@@ -5,7 +5,7 @@ use borrow.Author.Needs.{needs}
 use lib.ListN.{length}
 use Rattle.psv0_layout.specs.Position.{NoZero}
 use Rattle.psv0_layout.proofs.References.{noZero-begin, lastZero-none}
-use Rattle.psv0_sections.proofs.Judgements.{zero-found, zero-sought}
+use Rattle.psv0_layout.proofs.Judgements.{zero-found, zero-sought}
 use Rattle.psv0_sections.proofs.string_end.Statement.{statement}
 use Rattle.psv0_sections.proofs.string_end.Tie as tie
 

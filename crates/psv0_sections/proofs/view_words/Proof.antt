@@ -1,7 +1,7 @@
 use borrow.Author.Needs.{needs}
 use mathlib.Core.Path.{_∙_}
 use mathlib.Core.Logic.{inl, inr}
-use Rattle.psv0_sections.proofs.Masks.{view-none, view-some, patch-some, patch-none}
+use Rattle.psv0_layout.proofs.Masks.{view-none, view-some, patch-some, patch-none}
 use Rattle.psv0_sections.proofs.view_words.Statement.{statement}
 use Rattle.psv0_sections.proofs.view_words.Tie as tie
 

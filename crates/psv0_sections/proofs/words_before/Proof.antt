@@ -4,7 +4,7 @@ use native.Mathlib.Omega.{arith}
 use borrow.Author.Needs.{needs}
 use lib.ListN.{take}
 use Rattle.psv0_layout.specs.Field.{maskWords, sum}
-use Rattle.psv0_sections.proofs.Masks.{none-before, one-more, total-fits, all-before}
+use Rattle.psv0_layout.proofs.Masks.{none-before, one-more, total-fits, all-before}
 use Rattle.psv0_sections.proofs.words_before.Statement.{statement}
 use Rattle.psv0_sections.proofs.words_before.Tie as tie
 

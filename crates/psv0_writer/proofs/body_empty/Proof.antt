@@ -1,6 +1,6 @@
 use native.Mathlib.Omega.{arith}
 use lib.ListN.{length}
-use Rattle.psv0_writer.proofs.Checks.{some-bytes, no-bytes-before}
+use Rattle.psv0_writer_layout.proofs.Checks.{some-bytes, no-bytes-before}
 use Rattle.psv0_writer.proofs.body_empty.Statement.{statement}
 use Rattle.psv0_writer.proofs.body_empty.Tie as tie
 

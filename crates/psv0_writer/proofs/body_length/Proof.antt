@@ -1,6 +1,6 @@
 use native.Mathlib.Omega.{arith}
 use borrow.Author.Needs.{needs}
-use Rattle.psv0_plain.specs.Stretch.{bodyLength}
+use Rattle.psv0_writer_layout.specs.Stretch.{bodyLength}
 use Rattle.psv0_writer.proofs.body_length.Statement.{statement}
 use Rattle.psv0_writer.proofs.body_length.Tie as tie
 

@@ -1,6 +1,6 @@
 use native.Mathlib.Omega.{arith}
 use borrow.Author.Needs.{needs}
-use Rattle.psv0_plain.specs.Stretch.{headLength}
+use Rattle.psv0_writer_layout.specs.Stretch.{headLength}
 use Rattle.psv0_writer.proofs.head_length.Statement.{statement}
 use Rattle.psv0_writer.proofs.head_length.Tie as tie
 

@@ -2,9 +2,9 @@ use mathlib.Core.Path.{_≡_, _∙_, sym}
 use native.Mathlib.Omega.{arith}
 use borrow.Author.Tests.{not-true, not-false}
 use borrow.Author.Needs.{needs}
-use Rattle.psv0_plain.specs.Stretch.{writtenLength}
-use Rattle.psv0_writer.specs.Answer.{given}
-use Rattle.psv0_writer.proofs.Checks.{no-edition, lengths-refused, too-long, given-refused, no-room, all-right}
+use Rattle.psv0_writer_layout.specs.Stretch.{writtenLength}
+use Rattle.psv0_writer_layout.specs.Answer.{given}
+use Rattle.psv0_writer_layout.proofs.Checks.{no-edition, lengths-refused, too-long, given-refused, no-room, all-right}
 use Rattle.psv0_writer.proofs.judge.Statement.{statement}
 use Rattle.psv0_writer.proofs.judge.Tie as tie
 

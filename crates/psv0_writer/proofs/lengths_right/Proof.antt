@@ -1,9 +1,9 @@
 use mathlib.Core.Path.{_∙_, sym}
 use native.Mathlib.Omega.{arith}
 use borrow.Author.Needs.{needs}
-use Rattle.psv0_plain.proofs.GivenRecords.{resource-size}
-use Rattle.psv0_writer.specs.Answer.{given}
-use Rattle.psv0_writer.proofs.Checks.{lengths-wrong, head-decides, body-right}
+use Rattle.psv0_writer_layout.proofs.GivenRecords.{resource-size}
+use Rattle.psv0_writer_layout.specs.Answer.{given}
+use Rattle.psv0_writer_layout.proofs.Checks.{lengths-wrong, head-decides, body-right}
 use Rattle.psv0_writer.proofs.lengths_right.Statement.{statement}
 use Rattle.psv0_writer.proofs.lengths_right.Tie as tie
 

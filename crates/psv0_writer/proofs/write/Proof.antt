@@ -2,8 +2,8 @@ use mathlib.Core.Path.{_∙_, sym}
 use native.Mathlib.Omega.{arith}
 use lib.Seq.{length-take-le}
 use borrow.Author.Needs.{needs}
-use Rattle.psv0_writer.specs.Answer.{given}
-use Rattle.psv0_writer.proofs.Checks.{kept, len-told, within-limit, within-room, filled}
+use Rattle.psv0_writer_layout.specs.Answer.{given}
+use Rattle.psv0_writer_layout.proofs.Checks.{kept, len-told, within-limit, within-room, filled}
 use Rattle.psv0_writer.proofs.write.Statement.{statement}
 use Rattle.psv0_writer.proofs.write.Tie as tie
 

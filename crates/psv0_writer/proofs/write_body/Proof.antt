@@ -4,8 +4,8 @@ use lib.Seq.{length-take-le}
 use lib.ListN.{length}
 use borrow.Author.Needs.{needs}
 use Rattle.wire.proofs.Stretches.{rest-copied, written-length}
-use Rattle.psv0_plain.specs.Stretch.{bodyLength}
-use Rattle.psv0_writer.proofs.Sections.{counted-front, tables-written, elements-written, body-laid}
+use Rattle.psv0_writer_layout.specs.Stretch.{bodyLength}
+use Rattle.psv0_writer_layout.proofs.Sections.{counted-front, tables-written, elements-written, body-laid}
 use Rattle.psv0_writer.proofs.write_body.Statement.{statement}
 use Rattle.psv0_writer.proofs.write_body.Tie as tie
 

@@ -1,7 +1,7 @@
 use native.Mathlib.Omega.{arith}
 use borrow.Author.Needs.{needs}
 use Rattle.wire.proofs.Stretches.{rest-copied}
-use Rattle.psv0_writer.proofs.Sections.{number-written}
+use Rattle.psv0_writer_layout.proofs.Sections.{number-written}
 use Rattle.psv0_writer.proofs.write_counted.Statement.{statement}
 use Rattle.psv0_writer.proofs.write_counted.Tie as tie
 

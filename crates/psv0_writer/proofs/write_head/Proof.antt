@@ -5,9 +5,9 @@ use lib.Seq.{length-take-le}
 use lib.ListN.{length}
 use borrow.Author.Needs.{needs}
 use Rattle.wire.proofs.Stretches.{rest-length, rest-written, written-length}
-use Rattle.psv0_plain.proofs.GivenRecords.{resource-size}
-use Rattle.psv0_plain.specs.Stretch.{headLength}
-use Rattle.psv0_writer.proofs.Sections.{counted-front, counted-length, records-length, head-laid}
+use Rattle.psv0_writer_layout.proofs.GivenRecords.{resource-size}
+use Rattle.psv0_writer_layout.specs.Stretch.{headLength}
+use Rattle.psv0_writer_layout.proofs.Sections.{counted-front, counted-length, records-length, head-laid}
 use Rattle.psv0_writer.proofs.write_head.Statement.{statement}
 use Rattle.psv0_writer.proofs.write_head.Tie as tie
 

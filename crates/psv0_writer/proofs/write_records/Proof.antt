@@ -1,7 +1,7 @@
 use mathlib.Core.Path.{_∙_}
 use native.Mathlib.Omega.{arith}
 use borrow.Author.Needs.{needs}
-use Rattle.psv0_writer.proofs.Sections.{no-records, some-length, some-records}
+use Rattle.psv0_writer_layout.proofs.Sections.{no-records, some-length, some-records}
 use Rattle.psv0_writer.proofs.write_records.Statement.{statement}
 use Rattle.psv0_writer.proofs.write_records.Tie as tie
 

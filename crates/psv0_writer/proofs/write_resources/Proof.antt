@@ -2,7 +2,7 @@ use mathlib.Core.Path.{_∙_}
 use native.Mathlib.Omega.{arith}
 use borrow.Author.Needs.{needs}
 use Rattle.wire.proofs.Stretches.{rest-written}
-use Rattle.psv0_writer.proofs.Sections.{number-written, records-length}
+use Rattle.psv0_writer_layout.proofs.Sections.{number-written, records-length}
 use Rattle.psv0_writer.proofs.write_resources.Statement.{statement}
 use Rattle.psv0_writer.proofs.write_resources.Tie as tie
 

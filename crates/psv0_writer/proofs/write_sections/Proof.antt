@@ -3,10 +3,10 @@ use native.Mathlib.Omega.{arith}
 use lib.Seq.{length-take-le}
 use borrow.Author.Needs.{needs}
 use Rattle.wire.proofs.Stretches.{all-written, rest-length, rest-written, written-length}
-use Rattle.psv0_plain.proofs.Stretches.{body-length}
-use Rattle.psv0_plain.specs.Stretch.{headLength}
-use Rattle.psv0_writer.specs.Answer.{given, headGiven, bodyGiven}
-use Rattle.psv0_writer.proofs.Sections.{head-front, head-fits, head-only, head-whole, head-and-body, both-laid}
+use Rattle.psv0_writer_layout.proofs.Stretches.{body-length}
+use Rattle.psv0_writer_layout.specs.Stretch.{headLength}
+use Rattle.psv0_writer_layout.specs.Answer.{given, headGiven, bodyGiven}
+use Rattle.psv0_writer_layout.proofs.Sections.{head-front, head-fits, head-only, head-whole, head-and-body, both-laid}
 use Rattle.psv0_writer.proofs.write_sections.Statement.{statement}
 use Rattle.psv0_writer.proofs.write_sections.Tie as tie
 

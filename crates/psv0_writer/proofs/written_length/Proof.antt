@@ -1,8 +1,8 @@
 use mathlib.Core.Path.{_∙_, sym, ap}
 use native.Mathlib.Omega.{arith}
 use borrow.Author.Needs.{needs}
-use Rattle.psv0_writer.specs.Answer.{given, capped}
-use Rattle.psv0_writer.proofs.Sections.{head-only, head-and-body}
+use Rattle.psv0_writer_layout.specs.Answer.{given, capped}
+use Rattle.psv0_writer_layout.proofs.Sections.{head-only, head-and-body}
 use Rattle.psv0_writer.proofs.written_length.Statement.{statement}
 use Rattle.psv0_writer.proofs.written_length.Tie as tie
 

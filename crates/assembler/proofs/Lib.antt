@@ -1,4 +1,0 @@
-pub mod Answers
-pub mod Checks
-pub mod RoundTrip
-pub mod Sections

@@ -1,0 +1,112 @@
+-- The part table of a container, as document 01 has it in "The container" and "Refusal numbers".
+use mathlib.Core.Bool.{Bool, _&&_, not}
+use mathlib.Core.List.{List, [], _∷_}
+use Prim.Native.Nat.{ℕ, zero, suc, _+_, _*_}
+use lib.Dec.{ltb, leb, eqb}
+use lib.ListN.{length, take, drop, set, replicate}
+use Rattle.wire.specs.Number.{u16At, u32At}
+use Rattle.wire.specs.Search.{first}
+use Rattle.wire.specs.Verdict.{_then_, check, each}
+use Rattle.wire.specs.declared.Verdict.{Verdict}
+use Rattle.wire.specs.declared.Verdict.the-variants.{Accepted, Refused}
+use Rattle.part_table_layout.specs.declared.Table.{Table}
+
+-- offset 0: "the four bytes `DXBC`"
+abbrev pub magic : List ℕ
+magic = 68 ∷ 88 ∷ 66 ∷ 67 ∷ []
+
+-- offset 28: "part count n"
+unfoldable pub countOf : List ℕ → ℕ
+countOf b = u32At b 28
+
+-- offset 32: "offset of each part header", 4 bytes a part
+unfoldable pub offsetAt : List ℕ → ℕ → ℕ
+offsetAt b k = u32At b (32 + 4 * k)
+
+-- "A part header is a 4-byte name and a 4-byte data size; the data follow." A name is its four bytes as one number.
+unfoldable pub nameAt : List ℕ → ℕ → ℕ
+nameAt b k = u32At b (offsetAt b k)
+
+unfoldable pub sizeAt : List ℕ → ℕ → ℕ
+sizeAt b k = u32At b (offsetAt b k + 4)
+
+unfoldable pub dataAt : List ℕ → ℕ → List ℕ
+dataAt b k = take (sizeAt b k) (drop (offsetAt b k + 8) b)
+
+-- the end of part k's data
+unfoldable pub endAt : List ℕ → ℕ → ℕ
+endAt b k = offsetAt b k + 8 + sizeAt b k
+
+-- "each part header starts at or after the end of the part before it (the first: at or after the end of the offset table)"
+unfoldable pub earliest : List ℕ → ℕ → ℕ
+earliest b zero = 32 + 4 * countOf b
+earliest b (suc k) = endAt b k
+
+-- 8: "a part starts too early, or its header or data pass the end"; the place is the part
+unfoldable pub partJudged : List ℕ → ℕ → Verdict
+partJudged b k = check (leb (earliest b k) (offsetAt b k) && leb (offsetAt b k + 8) (length b) && leb (endAt b k) (length b)) 8 k
+
+-- part j has the name x
+abbrev pub hasName : (ℕ → ℕ) → ℕ → ℕ → Bool
+hasName names x j = eqb (names j) x
+
+-- the name of part k is one of the k names before it
+abbrev pub stoodEarlier : (ℕ → ℕ) → ℕ → Bool
+stoodEarlier names k = ltb (first (hasName names (names k)) k) k
+
+-- "no name occurs twice": which names may repeat is said here and nowhere else. 9: "a name stood earlier"; the place is the part
+unfoldable pub nameJudged : (ℕ → ℕ) → ℕ → Verdict
+nameJudged names k = check (not (stoodEarlier names k)) 9 k
+
+-- 1 to 7, in the order of checking
+unfoldable pub headerJudged : List ℕ → Verdict
+headerJudged b =
+    check (leb 32 (length b)) 1 0
+    then check (leb (length b) 16777216) 2 0
+    then check (eqb (u32At b 0) (u32At magic 0)) 3 0
+    then check (eqb (u16At b 20) 1 && eqb (u16At b 22) 0) 4 0
+    then check (eqb (u32At b 24) (length b)) 5 0
+    then check (leb (countOf b) 96) 6 0
+    then check (leb (32 + 4 * countOf b) (length b)) 7 0
+
+-- 8 of every part, "first such part, from 0", and then 9 of every part, "first such part"
+unfoldable pub partsJudged : List ℕ → Verdict
+partsJudged b = each (partJudged b) (countOf b) then each (nameJudged (nameAt b)) (countOf b)
+
+-- 1 to 9: "The table reader gives 1 to 9"
+unfoldable pub tableJudged : List ℕ → Verdict
+tableJudged b = headerJudged b then partsJudged b
+
+-- "Part table arrays built as 96 zero entries, filled up to the count"
+abbrev pub filled : (ℕ → ℕ) → ℕ → List ℕ
+filled f zero = replicate 96 0
+filled f (suc k) = set (filled f k) k (f k)
+
+-- what a reader shows: a refusal has count 0 and zero entries
+abbrev pub refusedTable : Verdict → Table
+refusedTable v =
+    record {
+      verdict = v;
+      count = 0;
+      names = replicate 96 0;
+      offsets = replicate 96 0;
+      sizes = replicate 96 0;
+    }
+
+abbrev pub acceptedTable : List ℕ → Table
+acceptedTable b =
+    record {
+      verdict = Accepted;
+      count = countOf b;
+      names = filled (nameAt b) (countOf b);
+      offsets = filled (offsetAt b) (countOf b);
+      sizes = filled (sizeAt b) (countOf b);
+    }
+
+abbrev pub tableIf : Verdict → List ℕ → Table
+tableIf Accepted b = acceptedTable b
+tableIf (Refused n p) b = refusedTable (Refused n p)
+
+-- the part table of a container, or its refusal
+unfoldable pub tableOf : List ℕ → Table
+tableOf b = tableIf (tableJudged b) b

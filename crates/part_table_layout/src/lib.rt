@@ -1,0 +1,27 @@
+// The definitions of the part table of a DirectX container, with the types of its answers, and what is proved of them; the reader is a crate
+// of its own.
+use wire::Verdict;
+
+// A part table, with room for 96 parts. Entries from count on are zero; a refusal has count 0.
+// A name is its four bytes as one little-endian number.
+pub struct Table {
+    pub verdict: Verdict,
+    pub count: usize,
+    pub names: [u32; 96],
+    pub offsets: [u32; 96],
+    pub sizes: [u32; 96],
+}
+
+// The number of a part, or that there is none.
+pub enum Found {
+    At(usize),
+    Nothing,
+}
+
+// A part found by its name: its number, where its header starts and its data size. A refusal has zeros.
+pub struct Part {
+    pub verdict: Verdict,
+    pub number: usize,
+    pub offset: usize,
+    pub size: usize,
+}

@@ -1,4 +1,0 @@
-pub mod Checked
-pub mod Plain
-pub mod Stretch
-pub mod Written

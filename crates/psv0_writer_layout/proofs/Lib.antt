@@ -1,0 +1,14 @@
+pub mod Checks
+pub mod GivenRecords
+pub mod HandedOut
+pub mod Lengths
+pub mod Relaid
+pub mod Results
+pub mod RoundTrips
+pub mod Runtime
+pub mod Sections
+pub mod Stretches
+pub mod Writing
+pub mod WrittenJudged
+pub mod WrittenPlain
+pub mod WrittenSections
