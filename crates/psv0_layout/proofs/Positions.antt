@@ -134,7 +134,7 @@ module _ (d : List ℕ) (at : ℕ) where
 pub rows-length : (w n s : ℕ) (l : List ℕ) → length (rows w n s l) ≡ n
 unfolding rows
 rows-length w zero s l = refl
-rows-length w (suc n) s l = ap suc (rows-length w n s (drop s l))
+rows-length w (suc n) s l = ap suc (rows-length w n s _)
 
 pub rows-at : (w n s : ℕ) (l : List ℕ) (i : ℕ) → i < n → getD (rows w n s l) i [] ≡ take w (drop (i * s) l)
 unfolding rows
