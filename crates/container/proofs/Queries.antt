@@ -21,10 +21,10 @@ use Rattle.part_table_layout.specs.declared.Found.{Found}
 use Rattle.part_table_layout.specs.declared.Found.the-variants.{At, Nothing}
 use Rattle.part_table_layout.proofs.Accepted.{accepted-told, part-inside}
 use Rattle.part_table_layout.proofs.Lookups.{find-told, part-in-file}
-use Rattle.psv0.specs.Answers.{numberBeside, bytesBeside, bytesOf, openingOf, infoAnswerOf, resourceAnswerOf, elementAnswerOf, lengthsAnswerOf, refusedInfo, refusedResource, refusedElement, refusedLengths, refusedSpan, SpanShows}
-use Rattle.psv0.specs.declared.Opening.{Opening}
-use Rattle.psv0.specs.declared.Span.{Span}
-use Rattle.psv0.proofs.Spans.{refused-shows}
+use Rattle.psv0_layout.specs.Answers.{numberBeside, bytesBeside, bytesOf, openingOf, infoAnswerOf, resourceAnswerOf, elementAnswerOf, lengthsAnswerOf, refusedInfo, refusedResource, refusedElement, refusedLengths, refusedSpan, SpanShows}
+use Rattle.psv0_layout.specs.declared.Opening.{Opening}
+use Rattle.psv0_layout.specs.declared.Span.{Span}
+use Rattle.psv0_layout.proofs.Spans.{refused-shows}
 use Rattle.psv0_layout.specs.Handed as handed
 use Rattle.psv0_layout.specs.Judged.{opened}
 use Rattle.psv0_layout.specs.Layout.{editionRead}

@@ -10,8 +10,8 @@ use Rattle.part_table_layout.specs.Table.{countOf, offsetAt}
 use Rattle.part_table_layout.specs.declared.Found.{Found}
 use Rattle.part_table_layout.specs.declared.Found.the-variants.{At, Nothing}
 use Rattle.part_table_layout.specs.declared.Part.{Part}
-use Rattle.psv0.specs.Answers.{numberBeside}
-use Rattle.psv0.specs.declared.Span.{Span}
+use Rattle.psv0_layout.specs.Answers.{numberBeside}
+use Rattle.psv0_layout.specs.declared.Span.{Span}
 use Rattle.psv0_layout.specs.Layout.{editionRead}
 use Rattle.container_layout.specs.Container.{psv0, sizeFound, psvOf, beforePsv, containerJudged, containerPart}
 use Rattle.container.specs.declared.ContainerOpening.{ContainerOpening}

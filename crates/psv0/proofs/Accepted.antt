@@ -20,7 +20,7 @@ use Rattle.psv0_layout.proofs.Wholes.{head-whole, body-whole}
 use Rattle.psv0_sections.specs.Places.{headPlaces, placesOf, Placed, HeadPlaced, BodyPlaced}
 use Rattle.psv0_sections.specs.declared.Places.{Places}
 use Rattle.psv0_sections.proofs.Opening.{verdict-is, placed}
-use Rattle.psv0.specs.Parts.{Reading}
+use Rattle.psv0.specs.Reading.{Reading}
 
 stride-least : {t : Records} → WholeRecords t → 1 ≤ t .count → 16 ≤ t .stride
 stride-least none h = absurd (omega arith)

@@ -16,18 +16,19 @@ use Rattle.psv0_layout.specs.Layout.{editionRead}
 use Rattle.psv0_layout.specs.Shown.{unset, Question, shownAt, queried, answered}
 use Rattle.psv0_sections.specs.Places.{locatedOf}
 use Rattle.psv0_sections.specs.declared.Located.{Located}
-use Rattle.psv0.specs.Answers.{refusedInfo, refusedResource, refusedElement, refusedLengths, refusedSpan, infoOf, lengthsOf, numberBeside, openingOf, infoAnswerOf, resourceAnswerOf, elementAnswerOf, lengthsAnswerOf, bytesOf, bytesBeside, SpanShows}
-use Rattle.psv0.specs.Parts.{Reading, SpanAnswers}
-use Rattle.psv0.specs.declared.ElementAnswer.{ElementAnswer}
-use Rattle.psv0.specs.declared.InfoAnswer.{InfoAnswer}
-use Rattle.psv0.specs.declared.LengthsAnswer.{LengthsAnswer}
-use Rattle.psv0.specs.declared.ListLengths.{ListLengths}
-use Rattle.psv0.specs.declared.Opening.{Opening}
-use Rattle.psv0.specs.declared.ResourceAnswer.{ResourceAnswer}
-use Rattle.psv0.specs.declared.RuntimeInfo.{RuntimeInfo}
-use Rattle.psv0.specs.declared.Span.{Span}
+use Rattle.psv0_layout.specs.Answers.{refusedInfo, refusedResource, refusedElement, refusedLengths, refusedSpan, infoOf, lengthsOf, numberBeside, openingOf, infoAnswerOf, resourceAnswerOf, elementAnswerOf, lengthsAnswerOf, bytesOf, bytesBeside, SpanShows}
+use Rattle.psv0_layout.specs.Parts.{SpanAnswers}
+use Rattle.psv0.specs.Reading.{Reading}
+use Rattle.psv0_layout.specs.declared.ElementAnswer.{ElementAnswer}
+use Rattle.psv0_layout.specs.declared.InfoAnswer.{InfoAnswer}
+use Rattle.psv0_layout.specs.declared.LengthsAnswer.{LengthsAnswer}
+use Rattle.psv0_layout.specs.declared.ListLengths.{ListLengths}
+use Rattle.psv0_layout.specs.declared.Opening.{Opening}
+use Rattle.psv0_layout.specs.declared.ResourceAnswer.{ResourceAnswer}
+use Rattle.psv0_layout.specs.declared.RuntimeInfo.{RuntimeInfo}
+use Rattle.psv0_layout.specs.declared.Span.{Span}
 use Rattle.psv0.proofs.Accepted.{head, edition-is}
-use Rattle.psv0.proofs.Spans.{refused-shows}
+use Rattle.psv0_layout.proofs.Spans.{refused-shows}
 
 module _ (k : ℕ) (d : List ℕ) (l : Located) (e : l ≡ locatedOf k d) where
   verdict-is : l .verdict ≡ opened k d

@@ -24,18 +24,19 @@ use Rattle.psv0_layout.proofs.Positions.{part-part, rows-length, row-at, runtim
 use Rattle.psv0_layout.proofs.References.{string-inside}
 use Rattle.psv0_sections.specs.Places.{headPlaces}
 use Rattle.psv0_sections.specs.declared.Places.{Places}
-use Rattle.psv0.specs.Answers.{fieldOf, infoOf, resourceOf, elementOf, lengthsOf, resourceAnswerOf, elementAnswerOf, SpanShows, refusedResource, refusedElement, refusedSpan}
-use Rattle.psv0.specs.Parts.{ofRuntime, resourceShown, elementShown, Reading, Short, lengthsAt, acceptedSpan, SpanAnswers}
-use Rattle.psv0.specs.declared.ElementAnswer.{ElementAnswer}
-use Rattle.psv0.specs.declared.ElementRecord.{ElementRecord}
-use Rattle.psv0.specs.declared.Field.the-variants.{Set}
-use Rattle.psv0.specs.declared.ResourceAnswer.{ResourceAnswer}
-use Rattle.psv0.specs.declared.ResourceRecord.{ResourceRecord}
-use Rattle.psv0.specs.declared.Span.{Span}
+use Rattle.psv0_layout.specs.Answers.{fieldOf, infoOf, resourceOf, elementOf, lengthsOf, resourceAnswerOf, elementAnswerOf, SpanShows, refusedResource, refusedElement, refusedSpan}
+use Rattle.psv0_layout.specs.Parts.{ofRuntime, resourceShown, elementShown, acceptedSpan, SpanAnswers}
+use Rattle.psv0.specs.Reading.{Reading, Short, lengthsAt}
+use Rattle.psv0_layout.specs.declared.ElementAnswer.{ElementAnswer}
+use Rattle.psv0_layout.specs.declared.ElementRecord.{ElementRecord}
+use Rattle.psv0_layout.specs.declared.Field.the-variants.{Set}
+use Rattle.psv0_layout.specs.declared.ResourceAnswer.{ResourceAnswer}
+use Rattle.psv0_layout.specs.declared.ResourceRecord.{ResourceRecord}
+use Rattle.psv0_layout.specs.declared.Span.{Span}
 use Rattle.psv0.proofs.Accepted.{head, body, none-placed, short, long, resource-size, element-size}
-use Rattle.psv0.proofs.Fields.{set-from, unset-before}
-use Rattle.psv0.proofs.Shown.{info-shown, no-resource, resource-there, no-element, element-there, of-element, of-none}
-use Rattle.psv0.proofs.Spans.{answers, no-answer, stretch-length, whole-shows, part-shows, string-shows, array-shows, from-one-shows}
+use Rattle.psv0_layout.proofs.Fields.{set-from, unset-before}
+use Rattle.psv0_layout.proofs.Answered.{info-shown, no-resource, resource-there, no-element, element-there, of-element, of-none}
+use Rattle.psv0_layout.proofs.Spans.{answers, no-answer, stretch-length, whole-shows, part-shows, string-shows, array-shows, from-one-shows}
 
 -- a slice from a to a + n has n bytes
 pub slice-size : (a n : ℕ) → a + n - a ≡ n

@@ -1,11 +1,15 @@
+pub mod Answered
 pub mod EditionOrder
 pub mod Editions
+pub mod Fields
 pub mod Judgements
 pub mod Layouts
 pub mod Masks
 pub mod Opened
 pub mod Positions
+pub mod Records
 pub mod References
+pub mod Spans
 pub mod Wholes
 pub mod Widening
 pub mod Wider

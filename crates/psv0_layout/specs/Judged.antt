@@ -1,5 +1,5 @@
 -- Refusals 25, 2 and 12 to 24 of PSV0 data, in the order of checking.
-use mathlib.Core.Bool.{Bool, _&&_, _||_}
+use mathlib.Core.Bool.{_&&_, _||_}
 use mathlib.Core.List.{List, []}
 use Prim.Native.Nat.{ℕ, _+_, _%_}
 use lib.Dec.{leb, eqb}

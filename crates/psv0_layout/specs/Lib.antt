@@ -1,9 +1,11 @@
+pub mod Answers
 pub mod Field
 pub mod Given
 pub mod Handed
 pub mod Judged
 pub mod Laid
 pub mod Layout
+pub mod Parts
 pub mod Position
 pub mod Reference
 pub mod Shown

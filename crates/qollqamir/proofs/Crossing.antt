@@ -6,8 +6,8 @@ use mathlib.Core.List.{List}
 use native.Mathlib.Omega.{arith}
 use borrow.Author.Tests.{lt-ltb, le-ltb}
 use Rattle.wire.specs.declared.Verdict.{Verdict}
-use Rattle.psv0.specs.Answers.{bytesOf, bytesBeside, sectionOf, SpanShows}
-use Rattle.psv0.specs.declared.Span.{Span}
+use Rattle.psv0_layout.specs.Answers.{bytesOf, bytesBeside, sectionOf, SpanShows}
+use Rattle.psv0_layout.specs.declared.Span.{Span}
 use Rattle.psv0_layout.specs.Handed.{handed}
 use Rattle.psv0_layout.specs.Shown.{Value, queried}
 use Rattle.qollqamir.specs.Boundary.{cVerdict, cSpan, CShows, sectionNumbered, sectionVerdict, sectionShown}

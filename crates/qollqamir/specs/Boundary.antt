@@ -13,19 +13,19 @@ use Rattle.assembler_layout.specs.declared.Assembly.{Assembly}
 use Rattle.container.specs.declared.ContainerOpening.{ContainerOpening}
 use Rattle.part_table_layout.specs.declared.Part.{Part}
 use Rattle.part_table_layout.specs.declared.Table.{Table}
-use Rattle.psv0.specs.Answers.{bytesOf, bytesBeside, sectionOf}
-use Rattle.psv0.specs.declared.ElementAnswer.{ElementAnswer}
-use Rattle.psv0.specs.declared.Field.{Field}
-use Rattle.psv0.specs.declared.Field.the-variants.{Set, Unset}
-use Rattle.psv0.specs.declared.InfoAnswer.{InfoAnswer}
-use Rattle.psv0.specs.declared.LengthsAnswer.{LengthsAnswer}
-use Rattle.psv0.specs.declared.Opening.{Opening}
-use Rattle.psv0.specs.declared.ResourceAnswer.{ResourceAnswer}
-use Rattle.psv0.specs.declared.Section.{Section}
-use Rattle.psv0.specs.declared.Section.the-variants.{RuntimeRecord, ResourceRecords, StringTable, IndexTable, ElementRecords, Masks}
-use Rattle.psv0.specs.declared.Span.{Span}
-use Rattle.psv0.specs.declared.View.{View}
-use Rattle.psv0.specs.declared.View.the-variants.{StageUnion, ElementString, ElementArray, EntryName, Mask}
+use Rattle.psv0_layout.specs.Answers.{bytesOf, bytesBeside, sectionOf}
+use Rattle.psv0_layout.specs.declared.ElementAnswer.{ElementAnswer}
+use Rattle.psv0_layout.specs.declared.Field.{Field}
+use Rattle.psv0_layout.specs.declared.Field.the-variants.{Set, Unset}
+use Rattle.psv0_layout.specs.declared.InfoAnswer.{InfoAnswer}
+use Rattle.psv0_layout.specs.declared.LengthsAnswer.{LengthsAnswer}
+use Rattle.psv0_layout.specs.declared.Opening.{Opening}
+use Rattle.psv0_layout.specs.declared.ResourceAnswer.{ResourceAnswer}
+use Rattle.psv0_layout.specs.declared.Section.{Section}
+use Rattle.psv0_layout.specs.declared.Section.the-variants.{RuntimeRecord, ResourceRecords, StringTable, IndexTable, ElementRecords, Masks}
+use Rattle.psv0_layout.specs.declared.Span.{Span}
+use Rattle.psv0_layout.specs.declared.View.{View}
+use Rattle.psv0_layout.specs.declared.View.the-variants.{StageUnion, ElementString, ElementArray, EntryName, Mask}
 use Rattle.psv0_layout.specs.Handed.{handed}
 use Rattle.psv0_layout.specs.Shown.{Value, queried}
 use Rattle.psv0_writer_layout.specs.declared.Written.{Written}

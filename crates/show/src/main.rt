@@ -1,9 +1,9 @@
 // show EDITION FILE: prints all that an opening of a container of at most 65,536 bytes and its queries show, one item a line.
 use printing::number;
 use printing::text;
-use psv0::Field;
-use psv0::RuntimeInfo;
-use psv0::View;
+use psv0_layout::Field;
+use psv0_layout::RuntimeInfo;
+use psv0_layout::View;
 use wire::Verdict;
 
 // ---- bytes and values

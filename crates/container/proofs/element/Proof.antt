@@ -1,7 +1,7 @@
 use mathlib.Core.Path.{_∙_, refl}
 use native.Mathlib.Omega.{arith}
 use Rattle.container.proofs.Queries.{order, inside, data-is, alone, no-element}
-use Rattle.psv0.specs.Answers.{elementAnswerOf}
+use Rattle.psv0_layout.specs.Answers.{elementAnswerOf}
 use borrow.Author.Needs.{needs}
 use Rattle.container.proofs.element.Statement.{statement}
 use Rattle.container.proofs.element.Tie as tie

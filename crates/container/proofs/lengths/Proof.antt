@@ -1,7 +1,7 @@
 use mathlib.Core.Path.{_∙_, refl}
 use native.Mathlib.Omega.{arith}
 use Rattle.container.proofs.Queries.{order, inside, data-is, alone, no-lengths}
-use Rattle.psv0.specs.Answers.{lengthsAnswerOf}
+use Rattle.psv0_layout.specs.Answers.{lengthsAnswerOf}
 use borrow.Author.Needs.{needs}
 use Rattle.container.proofs.lengths.Statement.{statement}
 use Rattle.container.proofs.lengths.Tie as tie

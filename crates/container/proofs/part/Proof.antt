@@ -1,6 +1,6 @@
 use mathlib.Core.Path.{_∙_, ap}
 use native.Mathlib.Omega.{arith}
-use Rattle.psv0.specs.declared.Opening.{Opening}
+use Rattle.psv0_layout.specs.declared.Opening.{Opening}
 use Rattle.container.proofs.Queries.{order, inside, data-is, no-part, no-edition-part, part-is}
 use borrow.Author.Needs.{needs}
 use Rattle.container.proofs.part.Statement.{statement}

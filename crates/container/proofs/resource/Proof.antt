@@ -1,7 +1,7 @@
 use mathlib.Core.Path.{_∙_, refl}
 use native.Mathlib.Omega.{arith}
 use Rattle.container.proofs.Queries.{order, inside, data-is, alone, no-resource}
-use Rattle.psv0.specs.Answers.{resourceAnswerOf}
+use Rattle.psv0_layout.specs.Answers.{resourceAnswerOf}
 use borrow.Author.Needs.{needs}
 use Rattle.container.proofs.resource.Statement.{statement}
 use Rattle.container.proofs.resource.Tie as tie

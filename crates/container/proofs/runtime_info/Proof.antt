@@ -1,7 +1,7 @@
 use mathlib.Core.Path.{_∙_, refl}
 use native.Mathlib.Omega.{arith}
 use Rattle.container.proofs.Queries.{order, inside, data-is, alone, no-info}
-use Rattle.psv0.specs.Answers.{infoAnswerOf}
+use Rattle.psv0_layout.specs.Answers.{infoAnswerOf}
 use borrow.Author.Needs.{needs}
 use Rattle.container.proofs.runtime_info.Statement.{statement}
 use Rattle.container.proofs.runtime_info.Tie as tie

@@ -1,7 +1,7 @@
 use Prim.Native.Nat.{_/_, _%_}
-use Rattle.psv0.specs.Answers.{elementOf}
-use Rattle.psv0.specs.Parts.{elementShown}
-use Rattle.psv0.specs.declared.Field.the-variants.{Set}
+use Rattle.psv0_layout.specs.Answers.{elementOf}
+use Rattle.psv0_layout.specs.Parts.{elementShown}
+use Rattle.psv0_layout.specs.declared.Field.the-variants.{Set}
 use borrow.Author.Needs.{needs}
 use Rattle.psv0.proofs.element_at.Statement.{statement}
 use Rattle.psv0.proofs.element_at.Tie as tie

@@ -1,6 +1,6 @@
 use lib.Dec.{leb}
 use Rattle.psv0_layout.specs.Shown.{number}
-use Rattle.psv0.proofs.Fields.{unset-within}
+use Rattle.psv0_layout.proofs.Fields.{unset-within}
 use borrow.Author.Needs.{needs}
 use Rattle.psv0.proofs.from_if.Statement.{statement}
 use Rattle.psv0.proofs.from_if.Tie as tie

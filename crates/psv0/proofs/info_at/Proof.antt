@@ -1,5 +1,5 @@
 use Rattle.psv0_layout.specs.Shown.{value}
-use Rattle.psv0.specs.Answers.{infoOf}
+use Rattle.psv0_layout.specs.Answers.{infoOf}
 use borrow.Author.Needs.{needs}
 use Rattle.psv0.proofs.info_at.Statement.{statement}
 use Rattle.psv0.proofs.info_at.Tie as tie

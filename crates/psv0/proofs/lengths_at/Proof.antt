@@ -1,5 +1,5 @@
-use Rattle.psv0.specs.declared.Field.the-variants.{Set}
-use Rattle.psv0.specs.Parts.{lengthsAt}
+use Rattle.psv0_layout.specs.declared.Field.the-variants.{Set}
+use Rattle.psv0.specs.Reading.{lengthsAt}
 use borrow.Author.Needs.{needs}
 use Rattle.psv0.proofs.lengths_at.Statement.{statement}
 use Rattle.psv0.proofs.lengths_at.Tie as tie

@@ -1,4 +1,4 @@
-use Rattle.psv0.specs.Answers.{elementOf}
+use Rattle.psv0_layout.specs.Answers.{elementOf}
 use mathlib.Core.Path.{refl}
 use Rattle.psv0.proofs.refused_element.Statement.{statement}
 use Rattle.psv0.proofs.refused_element.Tie as tie

@@ -1,4 +1,4 @@
-use Rattle.psv0.specs.Answers.{infoOf}
+use Rattle.psv0_layout.specs.Answers.{infoOf}
 use mathlib.Core.Path.{refl}
 use Rattle.psv0.proofs.refused_info.Statement.{statement}
 use Rattle.psv0.proofs.refused_info.Tie as tie

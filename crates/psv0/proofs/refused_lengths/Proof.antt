@@ -1,4 +1,4 @@
-use Rattle.psv0.specs.Answers.{lengthsOf}
+use Rattle.psv0_layout.specs.Answers.{lengthsOf}
 use mathlib.Core.Path.{refl}
 use Rattle.psv0.proofs.refused_lengths.Statement.{statement}
 use Rattle.psv0.proofs.refused_lengths.Tie as tie

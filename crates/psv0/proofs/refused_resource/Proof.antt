@@ -1,4 +1,4 @@
-use Rattle.psv0.specs.Answers.{resourceOf}
+use Rattle.psv0_layout.specs.Answers.{resourceOf}
 use mathlib.Core.Path.{refl}
 use Rattle.psv0.proofs.refused_resource.Statement.{statement}
 use Rattle.psv0.proofs.refused_resource.Tie as tie

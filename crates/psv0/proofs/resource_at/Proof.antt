@@ -1,8 +1,8 @@
 use mathlib.Core.Path.{ap, _∙_}
 use native.Mathlib.Omega.{arith}
-use Rattle.psv0.specs.Answers.{resourceOf}
-use Rattle.psv0.specs.declared.Field.the-variants.{Set}
-use Rattle.psv0.proofs.Records.{resource-early, resource-late}
+use Rattle.psv0_layout.specs.Answers.{resourceOf}
+use Rattle.psv0_layout.specs.declared.Field.the-variants.{Set}
+use Rattle.psv0_layout.proofs.Records.{resource-early, resource-late}
 use borrow.Author.Needs.{needs}
 use Rattle.psv0.proofs.resource_at.Statement.{statement}
 use Rattle.psv0.proofs.resource_at.Tie as tie

@@ -1,4 +1,4 @@
-use Rattle.psv0.specs.Answers.{sectionOf}
+use Rattle.psv0_layout.specs.Answers.{sectionOf}
 use Rattle.psv0.proofs.Openings.{reading, section-accepted, section-refused}
 use borrow.Author.Needs.{needs}
 use Rattle.psv0.proofs.section_span.Statement.{statement}

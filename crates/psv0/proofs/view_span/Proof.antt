@@ -1,4 +1,4 @@
-use Rattle.psv0.specs.Answers.{questionOf}
+use Rattle.psv0_layout.specs.Answers.{questionOf}
 use Rattle.psv0.proofs.Openings.{reading, span-accepted, span-refused}
 use borrow.Author.Needs.{needs}
 use Rattle.psv0.proofs.view_span.Statement.{statement}

@@ -3,7 +3,7 @@
 use mathlib.Core.Path.{_≡_, refl, sym, ap, ap₂, _∙_}
 use mathlib.Core.Bool.{Bool, true, false, _&&_, _||_}
 use mathlib.Core.List.{List, []}
-use Prim.Native.Nat.{ℕ, _+_, _-_, _*_, _≤_, _<_}
+use Prim.Native.Nat.{ℕ, _+_, _*_, _≤_, _<_}
 use native.Mathlib.Omega.{arith}
 use lib.Dec.{leb, ltb, eqb}
 use lib.ListN.{length, getD, take, drop, List·getD-eq-default}
@@ -14,17 +14,17 @@ use Rattle.wire.specs.Number.{u32At}
 use Rattle.wire.specs.Verdict.{_then_, check}
 use Rattle.wire.specs.declared.Verdict.the-variants.{Accepted, Refused}
 use Rattle.wire.proofs.Numbers.{u32-take}
 use Rattle.psv0_layout.specs.Field.{hasThreads}
 use Rattle.psv0_layout.specs.Layout.{sections, seen, bodyOf, rows, resourceWidth}
 use Rattle.psv0_layout.specs.Shown.{Value, unset, number, view, resourceField, elementField, needs, setIf, ofElement, elementFields, value, shownAt, isSet, queried}
 use Rattle.psv0_layout.proofs.Positions.{part-u16, rows-at, rows-length}
 use Rattle.psv0_layout.proofs.Wholes.{width-fits}
-use Rattle.psv0.specs.Answers.{refusedResource, refusedElement, fieldOf, infoOf, resourceOf, elementOf, resourceAnswerOf, elementAnswerOf}
-use Rattle.psv0.specs.Parts.{ofRuntime, resourceShown, elementShown}
-use Rattle.psv0.specs.declared.ElementAnswer.{ElementAnswer}
-use Rattle.psv0.specs.declared.Field.the-variants.{Set}
-use Rattle.psv0.specs.declared.ResourceAnswer.{ResourceAnswer}
-use Rattle.psv0.proofs.Records.{resource-early}
+use Rattle.psv0_layout.specs.Answers.{refusedResource, refusedElement, fieldOf, infoOf, resourceOf, elementOf, resourceAnswerOf, elementAnswerOf}
+use Rattle.psv0_layout.specs.Parts.{ofRuntime, resourceShown, elementShown}
+use Rattle.psv0_layout.specs.declared.ElementAnswer.{ElementAnswer}
+use Rattle.psv0_layout.specs.declared.Field.the-variants.{Set}
+use Rattle.psv0_layout.specs.declared.ResourceAnswer.{ResourceAnswer}
+use Rattle.psv0_layout.proofs.Records.{resource-early}
 
 -- ---- the verdict of a query: a value that is set, and one that is not
 found : (x : Value) → isSet x ≡ true → Accepted ≡ queried Accepted x

@@ -5,24 +5,24 @@ use Prim.Native.Nat.{ℕ, _+_, _≤_}
 use lib.ListN.{length, take, drop}
 use Rattle.wire.specs.declared.Verdict.{Verdict}
 use Rattle.wire.specs.declared.Verdict.the-variants.{Accepted, Refused}
 use Rattle.psv0_layout.specs.Handed as handed
 use Rattle.psv0_layout.specs.Shown.{Value, unset, number, view, Question, stageUnion, leastLanes, mostLanes, stageNumber, usesView, maxVertexCount, patchVectorCount, meshTopology, inputElements, outputElements, patchElements, inputVectorCount, outputVectorCount, threads, entryNameOffset, resourceField, elementField, elementString, elementArray, mask, entryName, resourceCount, stringBytes, indexCount, elementCount, queried}
-use Rattle.psv0.specs.declared.ElementAnswer.{ElementAnswer}
-use Rattle.psv0.specs.declared.ElementRecord.{ElementRecord}
-use Rattle.psv0.specs.declared.Field.{Field}
-use Rattle.psv0.specs.declared.Field.the-variants.{Set, Unset}
-use Rattle.psv0.specs.declared.InfoAnswer.{InfoAnswer}
-use Rattle.psv0.specs.declared.LengthsAnswer.{LengthsAnswer}
-use Rattle.psv0.specs.declared.ListLengths.{ListLengths}
-use Rattle.psv0.specs.declared.Opening.{Opening}
-use Rattle.psv0.specs.declared.ResourceAnswer.{ResourceAnswer}
-use Rattle.psv0.specs.declared.ResourceRecord.{ResourceRecord}
-use Rattle.psv0.specs.declared.RuntimeInfo.{RuntimeInfo}
-use Rattle.psv0.specs.declared.Section.{Section}
-use Rattle.psv0.specs.declared.Section.the-variants.{RuntimeRecord, ResourceRecords, StringTable, IndexTable, ElementRecords, Masks}
-use Rattle.psv0.specs.declared.Span.{Span}
-use Rattle.psv0.specs.declared.View.{View}
-use Rattle.psv0.specs.declared.View.the-variants.{StageUnion, ElementString, ElementArray, EntryName, Mask}
+use Rattle.psv0_layout.specs.declared.ElementAnswer.{ElementAnswer}
+use Rattle.psv0_layout.specs.declared.ElementRecord.{ElementRecord}
+use Rattle.psv0_layout.specs.declared.Field.{Field}
+use Rattle.psv0_layout.specs.declared.Field.the-variants.{Set, Unset}
+use Rattle.psv0_layout.specs.declared.InfoAnswer.{InfoAnswer}
+use Rattle.psv0_layout.specs.declared.LengthsAnswer.{LengthsAnswer}
+use Rattle.psv0_layout.specs.declared.ListLengths.{ListLengths}
+use Rattle.psv0_layout.specs.declared.Opening.{Opening}
+use Rattle.psv0_layout.specs.declared.ResourceAnswer.{ResourceAnswer}
+use Rattle.psv0_layout.specs.declared.ResourceRecord.{ResourceRecord}
+use Rattle.psv0_layout.specs.declared.RuntimeInfo.{RuntimeInfo}
+use Rattle.psv0_layout.specs.declared.Section.{Section}
+use Rattle.psv0_layout.specs.declared.Section.the-variants.{RuntimeRecord, ResourceRecords, StringTable, IndexTable, ElementRecords, Masks}
+use Rattle.psv0_layout.specs.declared.Span.{Span}
+use Rattle.psv0_layout.specs.declared.View.{View}
+use Rattle.psv0_layout.specs.declared.View.the-variants.{StageUnion, ElementString, ElementArray, EntryName, Mask}
 
 -- the enum's case for a value that is a number or unset
 abbrev pub fieldOf : Value → Field

@@ -5,9 +5,9 @@ use mathlib.Core.Bool.{Bool, true, false}
 use Prim.Native.Nat.{ℕ, _≤_, _<_}
 use lib.Dec.{leb}
 use borrow.Author.Tests.{le-leb, lt-leb}
 use Rattle.psv0_layout.specs.Shown.{Value, unset, setIf}
-use Rattle.psv0.specs.Answers.{fieldOf}
-use Rattle.psv0.specs.declared.Field.the-variants.{Unset}
+use Rattle.psv0_layout.specs.Answers.{fieldOf}
+use Rattle.psv0_layout.specs.declared.Field.the-variants.{Unset}
 
 -- a value that the stage or the record does not have is unset in every edition
 pub unset-within : (t h : Bool) (x : Value) → h ≡ false → Unset ≡ fieldOf (setIf t (setIf h x))

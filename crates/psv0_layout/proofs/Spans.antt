@@ -13,14 +13,14 @@ use Rattle.wire.specs.Choice.{choose}
 use Rattle.wire.specs.Number.{u32At}
 use Rattle.wire.specs.Verdict.{_then_, check}
 use Rattle.wire.specs.declared.Verdict.the-variants.{Accepted, Refused}
 use Rattle.psv0_layout.specs.Handed.{fromOne}
 use Rattle.psv0_layout.specs.Reference.{stringAt, indexGood, arrayAt}
 use Rattle.psv0_layout.specs.Shown.{Value, unset, view, queried}
 use Rattle.psv0_layout.proofs.Positions.{part-part}
 use Rattle.psv0_layout.proofs.References.{index-inside, index-at, array-at}
-use Rattle.psv0.specs.Answers.{SpanShows, refusedSpan}
-use Rattle.psv0.specs.Parts.{acceptedSpan, SpanAnswers}
-use Rattle.psv0.specs.declared.Span.{Span}
+use Rattle.psv0_layout.specs.Answers.{SpanShows, refusedSpan}
+use Rattle.psv0_layout.specs.Parts.{acceptedSpan, SpanAnswers}
+use Rattle.psv0_layout.specs.declared.Span.{Span}
 
 not-refused : (n p : ℕ) → Accepted ≡ Refused n p → ⊥
 not-refused n p e = let z : _≡_ {A = ℕ} 0 1 = cc in omega arith

@@ -12,10 +12,10 @@ use borrow.Author.Tests.{lt-ltb, le-ltb, le-leb, lt-leb, leb-true}
 use Rattle.wire.specs.Choice.{choose}
 use Rattle.wire.specs.Number.{u32At}
 use Rattle.wire.proofs.Numbers.{u32-take}
 use Rattle.psv0_layout.specs.Shown.{unset, number, setIf, ofResource}
-use Rattle.psv0.specs.Answers.{fieldOf}
-use Rattle.psv0.specs.Parts.{resourceShown}
-use Rattle.psv0.specs.declared.Field.the-variants.{Set}
+use Rattle.psv0_layout.specs.Answers.{fieldOf}
+use Rattle.psv0_layout.specs.Parts.{resourceShown}
+use Rattle.psv0_layout.specs.declared.Field.the-variants.{Set}
 
 -- field f of the first w bytes of a record: set where it lies inside
 inside : (r : List ℕ) (w f : ℕ) → f < 6 → w ≤ length r → f * 4 + 4 ≤ w → ofResource (take w r ∷ []) 0 f ≡ number (u32At r (f * 4))
