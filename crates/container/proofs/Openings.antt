@@ -20,8 +20,8 @@ use Rattle.part_table_layout.specs.declared.Table.{Table}
 use Rattle.part_table_layout.proofs.Accepted.{table-accepted, part-inside, accepted-told}
 use Rattle.part_table_layout.proofs.Lookups.{find-told, part-in-file}
 use Rattle.part_table_layout.proofs.Readings.{verdict-shown}
-use Rattle.container_layout.specs.Container.{dxil, psv0, isThere, sizeFound, beforePsv}
-use Rattle.container.specs.Opened.{startFound, psvPartOf}
+use Rattle.container_layout.specs.Container.{dxil, psv0, isThere, startFound, sizeFound, beforePsv}
+use Rattle.container.specs.Opened.{psvPartOf}
 use Rattle.container.specs.declared.PsvPart.{PsvPart}
 
 -- what is checked before the PSV0 data refuses: no part is shown

@@ -14,8 +14,7 @@ use Rattle.wire.specs.Verdict.{_then_, check}
 use Rattle.wire.specs.declared.Verdict.{Verdict}
 use Rattle.wire.specs.declared.Verdict.the-variants.{Accepted, Refused}
 use Rattle.part_table_layout.specs.Lookup.{find, refusedPart, partIn, partAt, partIf, partOf}
-use Rattle.part_table_layout.specs.Table.{countOf, offsetAt, sizeAt, dataAt, tableJudged, tableOf}
-use Rattle.part_table_layout.specs.declared.Part.{Part}
+use Rattle.part_table_layout.specs.Table.{countOf, dataAt, tableOf}
 use Rattle.part_table_layout.specs.declared.Table.{Table}
 use Rattle.part_table_layout.specs.declared.Found.{Found}
 use Rattle.part_table_layout.specs.declared.Found.the-variants.{At, Nothing}
@@ -30,9 +29,9 @@ use Rattle.psv0_layout.specs.Judged.{opened}
 use Rattle.psv0_layout.specs.Layout.{editionRead}
 use Rattle.psv0_layout.specs.Shown.{Value, unset, Question, queried, answered}
 use Rattle.psv0_layout.proofs.Positions.{part-part}
-use Rattle.container_layout.specs.Container.{psv0, isThere, sizeFound, dataFound, psvOf, beforePsv, containerJudged, containerAnswered, containerPart}
-use Rattle.container_layout.proofs.Containers.{before-told, opened-told, opens-alone, shows-alone, refuses-before, shows-nothing}
-use Rattle.container.specs.Opened.{startFound, psvPartOf, refusedOpening, openingIf, movedSpan, partBeside, containerOpeningOf, partDataOf}
+use Rattle.container_layout.specs.Container.{psv0, isThere, startFound, sizeFound, dataFound, psvOf, beforePsv, containerJudged, containerAnswered, containerPart}
+use Rattle.container_layout.proofs.Containers.{before-told, opens-alone, shows-alone, refuses-before, shows-nothing}
+use Rattle.container.specs.Opened.{psvPartOf, refusedOpening, openingIf, movedSpan, partBeside, containerOpeningOf}
 use Rattle.container.specs.declared.PsvPart.{PsvPart}
 
 pub end-less : (s l : ℕ) → s + l - s ≡ l
@@ -202,50 +201,3 @@ part-is k b hp a {d} e {v} hv {t} ht x =
 pub no-edition-part : (k : ℕ) (b : List ℕ) (x : ℕ) → 3 < k → refusedPart (Refused 25 0) ≡ containerPart k b x
 unfolding containerPart containerJudged beforePsv check _then_
 no-edition-part k b x h = simp (lt-leb _ _ h)
-
-accepted-if : (v : Verdict) (b : List ℕ) (x : ℕ) → partIf v b x .verdict ≡ Accepted → v ≡ Accepted
-accepted-if Accepted b x h = refl
-accepted-if (Refused n q) b x h = absurd (let z : _≡_ {A = ℕ} 0 1 = cc in omega arith)
-
-found-if : (b : List ℕ) (f : Found) → partAt b f .verdict ≡ Accepted → f ≡ At (partAt b f .number)
-found-if b (At i) h = refl
-found-if b Nothing h = absurd (let z : _≡_ {A = ℕ} 0 1 = cc in omega arith)
-
-module _ (k : ℕ) (b : List ℕ) (x : ℕ) {r : Part} (hr : r ≡ containerPart k b x) where
-  pub no-data : {n q : ℕ} → r .verdict ≡ Refused n q → [] ≡ partDataOf k b x
-  unfolding partDataOf
-  no-data h = let e = rw hr at h in rw e
-
-  module _ (h : r .verdict ≡ Accepted) where
-    ok : containerPart k b x .verdict ≡ Accepted
-    ok = rw hr at h
-
-    opens : containerJudged k b ≡ Accepted
-    unfolding containerPart
-    opens = accepted-if (containerJudged k b) b x ok
-
-    shown-part : r ≡ partAt b (find b x)
-    unfolding containerPart
-    shown-part = let o = opens in hr ∙ rw o
-
-    found-number : find b x ≡ At (r .number)
-    found-number = rw shown-part (found-if b (find b x) (rw shown-part at h))
-
-    entry : r ≡ record { verdict = Accepted; number = r .number; offset = offsetAt b (r .number); size = sizeAt b (r .number) }
-    entry = shown-part ∙ ap (partAt b) found-number
-
-    table : tableJudged b ≡ Accepted
-    table = before-told k b (opened-told k b opens .0) .table
-
-    pub part-fits : r .offset + 8 + r .size ≤ length b
-    part-fits = rw entry (part-inside b table (r .number) (find-told b x (r .number) found-number .listed))
-
-    pub part-short : r .offset + 8 + r .size ≤ 16777216
-    part-short = let l = part-fits in let s = accepted-told b table .header .short in omega arith
-
-    pub part-data : take (r .offset + 8 + r .size - (r .offset + 8)) (drop (r .offset + 8) b) ≡ partDataOf k b x
-    unfolding partDataOf dataAt
-    part-data =
-        let z : r .offset + 8 + r .size - (r .offset + 8) ≡ r .size = omega arith in
-        let g = ok in
-        rw (z, g, ← hr, ← ap (λ (q : Part). q .offset) entry, ← ap (λ (q : Part). q .size) entry)

@@ -5,22 +5,15 @@ use Rattle.constants.specs.Edition.{fileEdition}
 use Rattle.wire.specs.Number.{u32At}
 use Rattle.wire.specs.declared.Verdict.{Verdict}
 use Rattle.wire.specs.declared.Verdict.the-variants.{Accepted, Refused}
-use Rattle.part_table_layout.specs.Lookup.{find, refusedPart, dataIf}
-use Rattle.part_table_layout.specs.Table.{countOf, offsetAt}
-use Rattle.part_table_layout.specs.declared.Found.{Found}
-use Rattle.part_table_layout.specs.declared.Found.the-variants.{At, Nothing}
+use Rattle.part_table_layout.specs.Lookup.{find, refusedPart}
+use Rattle.part_table_layout.specs.Table.{countOf}
 use Rattle.part_table_layout.specs.declared.Part.{Part}
 use Rattle.psv0_layout.specs.Answers.{numberBeside}
 use Rattle.psv0_layout.specs.declared.Span.{Span}
 use Rattle.psv0_layout.specs.Layout.{editionRead}
-use Rattle.container_layout.specs.Container.{psv0, sizeFound, psvOf, beforePsv, containerJudged, containerPart}
+use Rattle.container_layout.specs.Container.{psv0, startFound, sizeFound, psvOf, beforePsv, containerJudged}
 use Rattle.container.specs.declared.ContainerOpening.{ContainerOpening}
 use Rattle.container.specs.declared.PsvPart.{PsvPart}
-
--- where the data of a part that was looked for start
-abbrev pub startFound : List ℕ → Found → ℕ
-startFound b (At k) = offsetAt b k + 8
-startFound b Nothing = 0
 
 -- the PSV0 part, under what is checked before it: the number of parts, and where its data start and end
 unfoldable pub psvPartOf : ℕ → List ℕ → PsvPart
@@ -53,7 +46,3 @@ partBeside (Refused n q) p = refusedPart (Refused n q)
 -- an opening at edition k: its verdict, the number of parts, the file's edition and the edition read; zeros beside a refusal
 unfoldable pub containerOpeningOf : ℕ → List ℕ → ContainerOpening
 containerOpeningOf k b = openingIf (containerJudged k b) (countOf b) (fileEdition (u32At (psvOf b) 0)) (editionRead k (psvOf b))
-
--- the data of the part with the name x: no bytes where the query refuses
-unfoldable pub partDataOf : ℕ → List ℕ → ℕ → List ℕ
-partDataOf k b x = dataIf (containerPart k b x .verdict) b (containerPart k b x .number)

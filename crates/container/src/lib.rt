@@ -22,8 +22,8 @@ ghost use Rattle.psv0_layout.specs.Answers.{infoAnswerOf, resourceAnswerOf, ele
 ghost use Rattle.psv0_layout.specs.Handed.{handed};
 ghost use Rattle.psv0_layout.specs.Layout.{editionRead, defaultEdition};
 ghost use Rattle.psv0_layout.specs.Shown.{queried};
-ghost use Rattle.container_layout.specs.Container.{psvOf, containerJudged, containerAnswered, containerPart};
-ghost use Rattle.container.specs.Opened.{psvPartOf, refusedOpening, openingIf, movedSpan, partBeside, containerOpeningOf, partDataOf};
+ghost use Rattle.container_layout.specs.Container.{psvOf, containerJudged, containerAnswered, containerPart, partDataOf};
+ghost use Rattle.container.specs.Opened.{psvPartOf, refusedOpening, openingIf, movedSpan, partBeside, containerOpeningOf};
 
 // The verdict of an opening, the number of parts, the file's edition and the edition read. A refusal has zeros.
 pub struct ContainerOpening {

@@ -1,3 +1,4 @@
 pub mod Boxes
 pub mod Containers
 pub mod Demand3
+pub mod Parts

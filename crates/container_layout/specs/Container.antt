@@ -1,10 +1,10 @@
 -- The opening of a whole container, and what it shows.
 use mathlib.Core.Bool.{Bool, true, false}
 use mathlib.Core.List.{List, [], _∷_}
-use Prim.Native.Nat.{ℕ}
+use Prim.Native.Nat.{ℕ, _+_}
 use lib.Dec.{leb, ltb}
-use Rattle.part_table_layout.specs.Lookup.{find, partIf}
-use Rattle.part_table_layout.specs.Table.{sizeAt, dataAt, tableJudged}
+use Rattle.part_table_layout.specs.Lookup.{find, partIf, dataIf}
+use Rattle.part_table_layout.specs.Table.{offsetAt, sizeAt, dataAt, tableJudged}
 use Rattle.part_table_layout.specs.declared.Found.{Found}
 use Rattle.part_table_layout.specs.declared.Found.the-variants.{At, Nothing}
 use Rattle.part_table_layout.specs.declared.Part.{Part}
@@ -25,6 +25,11 @@ psv0 = u32At (80 ∷ 83 ∷ 86 ∷ 48 ∷ []) 0
 abbrev pub isThere : Found → Bool
 isThere (At k) = true
 isThere Nothing = false
+
+-- where the data of a part that was looked for start, 0 where there is none
+abbrev pub startFound : List ℕ → Found → ℕ
+startFound b (At k) = offsetAt b k + 8
+startFound b Nothing = 0
 
 -- the size of a part that was looked for, 0 where there is none, and its data
 abbrev pub sizeFound : List ℕ → Found → ℕ
@@ -58,3 +63,7 @@ containerAnswered k b q = beside (containerJudged k b) (shown k (psvOf b) q)
 -- one part by its name's number x: what opening gives, then 26
 unfoldable pub containerPart : ℕ → List ℕ → ℕ → Part
 containerPart k b x = partIf (containerJudged k b) b x
+
+-- the data of the part with the name x: no bytes where the query refuses
+unfoldable pub partDataOf : ℕ → List ℕ → ℕ → List ℕ
+partDataOf k b x = dataIf (containerPart k b x .verdict) b (containerPart k b x .number)

@@ -134,11 +134,11 @@ pub data-refused : (b : List ℕ) (x : ℕ) {n p : ℕ} → partOf b x .verdict 
 unfolding dataOf
 data-refused b x h = rw h
 
-accepted-if : (v : Verdict) (b : List ℕ) (x : ℕ) → partIf v b x .verdict ≡ Accepted → v ≡ Accepted
+pub accepted-if : (v : Verdict) (b : List ℕ) (x : ℕ) → partIf v b x .verdict ≡ Accepted → v ≡ Accepted
 accepted-if Accepted b x h = refl
 accepted-if (Refused n p) b x h = absurd (let z : _≡_ {A = ℕ} 0 1 = cc in omega arith)
 
-found-if : (b : List ℕ) (f : Found) → partAt b f .verdict ≡ Accepted → f ≡ At (partAt b f .number)
+pub found-if : (b : List ℕ) (f : Found) → partAt b f .verdict ≡ Accepted → f ≡ At (partAt b f .number)
 found-if b (At k) h = refl
 found-if b Nothing h = absurd (let z : _≡_ {A = ℕ} 0 1 = cc in omega arith)
 

@@ -1,5 +1,5 @@
 use native.Mathlib.Omega.{arith}
-use Rattle.container.proofs.Queries.{part-short, part-fits, no-data, part-data}
+use Rattle.container_layout.proofs.Parts.{part-short, part-fits, no-data, part-data}
 use borrow.Author.Needs.{needs}
 use Rattle.container.proofs.part_bytes.Statement.{statement}
 use Rattle.container.proofs.part_bytes.Tie as tie

@@ -1,0 +1,55 @@
+-- One part of a container that opens: where it lies, and its data.
+-- Assumes nothing.
+use Prim.Native.Nat.{ℕ, _+_, _-_, _≤_}
+use mathlib.Core.Path.{_≡_, _∙_, ap}
+use mathlib.Core.List.{List, []}
+use native.Mathlib.Omega.{arith}
+use lib.ListN.{length, take, drop}
+use Rattle.wire.specs.declared.Verdict.the-variants.{Accepted, Refused}
+use Rattle.part_table_layout.specs.Lookup.{find, partAt}
+use Rattle.part_table_layout.specs.Table.{offsetAt, sizeAt, dataAt, tableJudged}
+use Rattle.part_table_layout.specs.declared.Found.the-variants.{At}
+use Rattle.part_table_layout.specs.declared.Part.{Part}
+use Rattle.part_table_layout.proofs.Accepted.{accepted-told, part-inside}
+use Rattle.part_table_layout.proofs.Lookups.{accepted-if, found-if, find-told}
+use Rattle.container_layout.specs.Container.{containerJudged, containerPart, partDataOf}
+use Rattle.container_layout.proofs.Containers.{before-told, opened-told}
+
+module _ (k : ℕ) (b : List ℕ) (x : ℕ) {r : Part} (hr : r ≡ containerPart k b x) where
+  pub no-data : {n q : ℕ} → r .verdict ≡ Refused n q → [] ≡ partDataOf k b x
+  unfolding partDataOf
+  no-data h = let e = rw hr at h in rw e
+
+  module _ (h : r .verdict ≡ Accepted) where
+    ok : containerPart k b x .verdict ≡ Accepted
+    ok = rw hr at h
+
+    opens : containerJudged k b ≡ Accepted
+    unfolding containerPart
+    opens = accepted-if (containerJudged k b) b x ok
+
+    shown-part : r ≡ partAt b (find b x)
+    unfolding containerPart
+    shown-part = let o = opens in hr ∙ rw o
+
+    found-number : find b x ≡ At (r .number)
+    found-number = rw shown-part (found-if b (find b x) (rw shown-part at h))
+
+    entry : r ≡ record { verdict = Accepted; number = r .number; offset = offsetAt b (r .number); size = sizeAt b (r .number) }
+    entry = shown-part ∙ ap (partAt b) found-number
+
+    table : tableJudged b ≡ Accepted
+    table = before-told k b (opened-told k b opens .0) .table
+
+    pub part-fits : r .offset + 8 + r .size ≤ length b
+    part-fits = rw entry (part-inside b table (r .number) (find-told b x (r .number) found-number .listed))
+
+    pub part-short : r .offset + 8 + r .size ≤ 16777216
+    part-short = let l = part-fits in let s = accepted-told b table .header .short in omega arith
+
+    pub part-data : take (r .offset + 8 + r .size - (r .offset + 8)) (drop (r .offset + 8) b) ≡ partDataOf k b x
+    unfolding partDataOf dataAt
+    part-data =
+        let z : r .offset + 8 + r .size - (r .offset + 8) ≡ r .size = omega arith in
+        let g = ok in
+        rw (z, g, ← hr, ← ap (λ (q : Part). q .offset) entry, ← ap (λ (q : Part). q .size) entry)
