@@ -318,7 +318,7 @@ static void refusals(const std::filesystem::path &shader) {
         const char *name;
         Bytes bytes;
         size_t edition;
-        uint8_t number;
+        size_t number;
     };
     std::vector<Case> cases(5, Case{"", good, 3, 0});
     cases[0].name = "31 bytes", cases[0].bytes.resize(31), cases[0].number = 1;
@@ -377,7 +377,7 @@ static void hostile() {
     for (auto &[name, b] : files) {
         auto verdict = qollqamir_open(b.data(), b.size(), 3).verdict;
         require(verdict.number == reference_open(b.data(), b.size(), 3), name);
-        require(verdict.number == (name.find("no zero") == std::string::npos ? 0 : 22), name);
+        require(verdict.number == (name.find("no zero") == std::string::npos ? 0u : 22u), name);
         bool elements = qollqamir_view(b.data(), b.size(), 3, QOLLQAMIR_ELEMENT_STRING, 7).verdict.number == 0;
         auto t = measure({open_at(b, 3), elements ? string_of(b, 7) : nullptr,
                           repeat([&b = b] { return pass_bytewise(b.data(), b.size()); }),

@@ -2,8 +2,9 @@
 
    Every call takes any bytes and answers. Its answer begins with a verdict: number 0 where the call accepts, else a refusal number of
    document 01 with its place. Beside a refusal every number is 0, no field is set, and a span has start and length 0.
-   A pointer to bytes is read only, is followed by its length, and may be null where the length is 0 only if the caller's platform allows
-   reading no bytes from it; pass a pointer to any object to be safe. Buffers that are written ("out") must not overlap the others.
+   A pointer is followed by its length and may be null where that is 0, "sizes" and "out" too; a name has no length and points to four
+   bytes. Only "out" is written; it must not overlap the others, and nothing else may change the bytes or "out" during a call.
+   Calls share nothing and may run on any number of threads at once, on the same bytes too.
    An edition is 0 to 3; any other gives refusal 25. */
 #ifndef QOLLQAMIR_H
 #define QOLLQAMIR_H
@@ -18,13 +19,13 @@ extern "C" {
 
 /* A verdict: the refusal's number, 0 where the call accepts, and its place. */
 typedef struct {
-    uint8_t number;
+    size_t number;
     size_t place;
 } qollqamir_verdict;
 
-/* A value: whether it is set, and its number, 0 where it is not. */
+/* A value: 1 where it is set, 0 where it is not, and its number, 0 where it is not. */
 typedef struct {
-    bool set;
+    uint32_t set;
     uint32_t value;
 } qollqamir_field;
 
@@ -128,6 +129,34 @@ typedef struct {
     qollqamir_verdict verdict;
     size_t len;
 } qollqamir_written;
+
+/* Every byte of an answer is a byte of a field, so an answer can be written out, compared or hashed as it stands. A struct that is added
+   gets its line here too. */
+#ifdef __cplusplus
+#define QOLLQAMIR_NO_PADDING(type, members) static_assert(sizeof(type) == (members), #type " has padding")
+#else
+#define QOLLQAMIR_NO_PADDING(type, members) _Static_assert(sizeof(type) == (members), #type " has padding")
+#endif
+#define QOLLQAMIR_SIZE(type, member) sizeof(((type *)0)->member)
+QOLLQAMIR_NO_PADDING(qollqamir_verdict, QOLLQAMIR_SIZE(qollqamir_verdict, number) + QOLLQAMIR_SIZE(qollqamir_verdict, place));
+QOLLQAMIR_NO_PADDING(qollqamir_field, QOLLQAMIR_SIZE(qollqamir_field, set) + QOLLQAMIR_SIZE(qollqamir_field, value));
+QOLLQAMIR_NO_PADDING(qollqamir_parts, sizeof(qollqamir_verdict) + QOLLQAMIR_SIZE(qollqamir_parts, count) +
+                                          QOLLQAMIR_SIZE(qollqamir_parts, names) + QOLLQAMIR_SIZE(qollqamir_parts, offsets) +
+                                          QOLLQAMIR_SIZE(qollqamir_parts, sizes));
+QOLLQAMIR_NO_PADDING(qollqamir_found, sizeof(qollqamir_verdict) + QOLLQAMIR_SIZE(qollqamir_found, number) +
+                                          QOLLQAMIR_SIZE(qollqamir_found, offset) + QOLLQAMIR_SIZE(qollqamir_found, size));
+QOLLQAMIR_NO_PADDING(qollqamir_opening, sizeof(qollqamir_verdict) + QOLLQAMIR_SIZE(qollqamir_opening, parts) +
+                                            QOLLQAMIR_SIZE(qollqamir_opening, file_edition) +
+                                            QOLLQAMIR_SIZE(qollqamir_opening, edition_read));
+QOLLQAMIR_NO_PADDING(qollqamir_info, sizeof(qollqamir_verdict) + 19 * sizeof(qollqamir_field));
+QOLLQAMIR_NO_PADDING(qollqamir_resource_record, sizeof(qollqamir_verdict) + 6 * sizeof(qollqamir_field));
+QOLLQAMIR_NO_PADDING(qollqamir_element_record, sizeof(qollqamir_verdict) + 13 * sizeof(qollqamir_field));
+QOLLQAMIR_NO_PADDING(qollqamir_list_lengths, sizeof(qollqamir_verdict) + 4 * sizeof(qollqamir_field));
+QOLLQAMIR_NO_PADDING(qollqamir_span, sizeof(qollqamir_verdict) + QOLLQAMIR_SIZE(qollqamir_span, start) +
+                                         QOLLQAMIR_SIZE(qollqamir_span, len));
+QOLLQAMIR_NO_PADDING(qollqamir_written, sizeof(qollqamir_verdict) + QOLLQAMIR_SIZE(qollqamir_written, len));
+#undef QOLLQAMIR_SIZE
+#undef QOLLQAMIR_NO_PADDING
 
 /* Kinds of view; number is the element's or the mask's (0 to 10) and is not looked at for the others. Any other kind gives 26. */
 enum {

@@ -1,4 +1,5 @@
-/* Calls the library through its C header: the boxes M and C of document 01, the last field of every struct, both writers. */
+/* Calls the library through its C header: the boxes M and C of document 01, the last field of every struct, both writers, every byte of
+   the answers of every call, null pointers. */
 #include "qollqamir.h"
 
 #include <stdio.h>
@@ -18,8 +19,8 @@ static int checks;
 
 #define REFUSED(answer, n, p) CHECK((answer).verdict.number == (n) && (answer).verdict.place == (p))
 #define ACCEPTED(answer) REFUSED(answer, 0, 0)
-#define SET(field, n) CHECK((field).set && (field).value == (n))
-#define UNSET(field) CHECK(!(field).set && (field).value == 0)
+#define SET(field, n) CHECK((field).set == 1 && (field).value == (n))
+#define UNSET(field) CHECK((field).set == 0 && (field).value == 0)
 
 static const uint8_t *name(const char *four) { return (const uint8_t *)four; }
 
@@ -283,61 +284,70 @@ static void test_last_entries(void) {
     CHECK(found.number == 95 && found.offset == 416 + 12 * 95 && found.size == 1);
 }
 
-/* A hull shader with something in every section goes through both writers and is read back. */
-static void test_writers(void) {
-    uint8_t runtime[52], resources[48], indices[24], elements[48], masks[4 * 52];
-    static const uint8_t strings[16] = "\0main\0POS\0B";
+/* The sections of a hull shader with something in each. */
+struct sections {
+    uint8_t runtime[52], resources[48], strings[16], indices[24], elements[48], masks[4 * 52];
+};
+
+static struct sections hull(void) {
+    struct sections s;
     for (int i = 0; i < 16; i++) {
-        runtime[i] = (uint8_t)(0xa0 + i);
+        s.runtime[i] = (uint8_t)(0xa0 + i);
     }
-    put32(runtime + 16, 4);
-    put32(runtime + 20, 0xffffffff);
-    put(runtime + 24, "\x03\x01\x09\x77\x01\x01\x01\x03\x09\0\0\0", 12);
-    memset(runtime + 36, 0, 12);
-    put32(runtime + 48, 1);
+    put32(s.runtime + 16, 4);
+    put32(s.runtime + 20, 0xffffffff);
+    put(s.runtime + 24, "\x03\x01\x09\x77\x01\x01\x01\x03\x09\0\0\0", 12);
+    memset(s.runtime + 36, 0, 12);
+    put32(s.runtime + 48, 1);
     for (uint32_t i = 0; i < 12; i++) {
-        put32(resources + 4 * i, 100 + i);
+        put32(s.resources + 4 * i, 100 + i);
     }
+    put(s.strings, "\0main\0POS\0B\0\0\0\0", 16);
     static const uint32_t numbers[6] = {2, 7, 8, 0, 1, 9};
     for (int i = 0; i < 6; i++) {
-        put32(indices + 4 * i, numbers[i]);
+        put32(s.indices + 4 * i, numbers[i]);
     }
-    put32(elements, 6);
-    put32(elements + 4, 0);
-    put(elements + 8, "\x01\x02\xe3\x04\x05\x06\xff\x07", 8);
-    put32(elements + 16, 10);
-    put32(elements + 20, 3);
-    memset(elements + 24, 0, 8);
-    put32(elements + 32, 0);
-    put32(elements + 36, 4);
-    memset(elements + 40, 0xff, 8);
-    for (size_t i = 0; i < sizeof masks; i++) {
-        masks[i] = (uint8_t)i;
+    put32(s.elements, 6);
+    put32(s.elements + 4, 0);
+    put(s.elements + 8, "\x01\x02\xe3\x04\x05\x06\xff\x07", 8);
+    put32(s.elements + 16, 10);
+    put32(s.elements + 20, 3);
+    memset(s.elements + 24, 0, 8);
+    put32(s.elements + 32, 0);
+    put32(s.elements + 36, 4);
+    memset(s.elements + 40, 0xff, 8);
+    for (size_t i = 0; i < sizeof s.masks; i++) {
+        s.masks[i] = (uint8_t)i;
     }
+    return s;
+}
 
+/* The hull shader goes through both writers and is read back. */
+static void test_writers(void) {
+    struct sections s = hull();
     uint8_t psv0[512];
-    size_t whole = 4 + 52 + 4 + 4 + 48 + 4 + 16 + 4 + 24 + 4 + 48 + sizeof masks;
+    size_t whole = 4 + 52 + 4 + 4 + 48 + 4 + 16 + 4 + 24 + 4 + 48 + sizeof s.masks;
 #define WRITE(edition, runtime_len, masks_len, out_len)                                                                   \
-    qollqamir_write_psv0(edition, runtime, runtime_len, resources, sizeof resources, strings, sizeof strings, indices,    \
-                         sizeof indices, elements, sizeof elements, masks, masks_len, psv0, out_len)
+    qollqamir_write_psv0(edition, s.runtime, runtime_len, s.resources, sizeof s.resources, s.strings, sizeof s.strings,   \
+                         s.indices, sizeof s.indices, s.elements, sizeof s.elements, s.masks, masks_len, psv0, out_len)
     memset(psv0, 0xee, sizeof psv0);
-    qollqamir_written written = WRITE(4, 52, sizeof masks, sizeof psv0);
+    qollqamir_written written = WRITE(4, 52, sizeof s.masks, sizeof psv0);
     REFUSED(written, 25, 0);
     CHECK(written.len == 0);
-    REFUSED(WRITE(3, 48, sizeof masks, sizeof psv0), 27, 0);
-    REFUSED(WRITE(3, 52, sizeof masks - 4, sizeof psv0), 27, 0);
-    REFUSED(WRITE(3, 52, sizeof masks, whole - 1), 28, 0);
-    REFUSED(WRITE(3, 52, sizeof masks, 0), 28, 0);
-    put32(elements + 36, 5);
-    REFUSED(WRITE(3, 52, sizeof masks, sizeof psv0), 23, 2);
-    put32(elements + 16, 16);
-    REFUSED(WRITE(3, 52, sizeof masks, sizeof psv0), 22, 1);
-    put32(elements + 36, 4);
-    put32(elements + 16, 10);
+    REFUSED(WRITE(3, 48, sizeof s.masks, sizeof psv0), 27, 0);
+    REFUSED(WRITE(3, 52, sizeof s.masks - 4, sizeof psv0), 27, 0);
+    REFUSED(WRITE(3, 52, sizeof s.masks, whole - 1), 28, 0);
+    REFUSED(WRITE(3, 52, sizeof s.masks, 0), 28, 0);
+    put32(s.elements + 36, 5);
+    REFUSED(WRITE(3, 52, sizeof s.masks, sizeof psv0), 23, 2);
+    put32(s.elements + 16, 16);
+    REFUSED(WRITE(3, 52, sizeof s.masks, sizeof psv0), 22, 1);
+    put32(s.elements + 36, 4);
+    put32(s.elements + 16, 10);
     for (size_t i = 0; i < sizeof psv0; i++) {
         CHECK(psv0[i] == 0xee);
     }
-    written = WRITE(3, 52, sizeof masks, whole);
+    written = WRITE(3, 52, sizeof s.masks, whole);
     ACCEPTED(written);
     CHECK(written.len == whole);
     for (size_t i = whole; i < sizeof psv0; i++) {
@@ -409,16 +419,16 @@ static void test_writers(void) {
     SET(element.reserved, 255);
     REFUSED(qollqamir_element(out, len, 3, 3), 26, 0);
     CHECK(shows(out, qollqamir_view(out, len, 3, QOLLQAMIR_ELEMENT_STRING, 0), "POS", 3));
-    CHECK(shows(out, qollqamir_view(out, len, 3, QOLLQAMIR_ELEMENT_ARRAY, 0), indices + 4, 8));
-    CHECK(shows(out, qollqamir_view(out, len, 3, QOLLQAMIR_ELEMENT_ARRAY, 2), indices + 20, 4));
+    CHECK(shows(out, qollqamir_view(out, len, 3, QOLLQAMIR_ELEMENT_ARRAY, 0), s.indices + 4, 8));
+    CHECK(shows(out, qollqamir_view(out, len, 3, QOLLQAMIR_ELEMENT_ARRAY, 2), s.indices + 20, 4));
     CHECK(shows(out, qollqamir_view(out, len, 3, QOLLQAMIR_ENTRY_NAME, 0), "main", 4));
-    CHECK(shows(out, qollqamir_view(out, len, 3, QOLLQAMIR_MASK, 4), masks + 8, 8));
-    CHECK(shows(out, qollqamir_view(out, len, 3, QOLLQAMIR_MASK, 5), masks + 16, 96));
-    CHECK(shows(out, qollqamir_view(out, len, 3, QOLLQAMIR_MASK, 9), masks + 112, 96));
+    CHECK(shows(out, qollqamir_view(out, len, 3, QOLLQAMIR_MASK, 4), s.masks + 8, 8));
+    CHECK(shows(out, qollqamir_view(out, len, 3, QOLLQAMIR_MASK, 5), s.masks + 16, 96));
+    CHECK(shows(out, qollqamir_view(out, len, 3, QOLLQAMIR_MASK, 9), s.masks + 112, 96));
 
     static const uint8_t *const none = (const uint8_t *)"";
-    const uint8_t *given[6] = {runtime, resources, strings, indices, elements, masks};
-    const size_t given_len[6] = {52, 48, 16, 24, 48, sizeof masks};
+    const uint8_t *given[6] = {s.runtime, s.resources, s.strings, s.indices, s.elements, s.masks};
+    const size_t given_len[6] = {52, 48, 16, 24, 48, sizeof s.masks};
     for (uint32_t section = 0; section < 6; section++) {
         CHECK(shows(out, qollqamir_section(out, len, 3, section), given[section], given_len[section]));
         CHECK(shows(psv0, qollqamir_psv0_section(psv0, whole, 3, section), given[section], given_len[section]));
@@ -426,9 +436,9 @@ static void test_writers(void) {
 
     /* Edition 0 with nothing but its record. */
     memset(psv0, 0xee, sizeof psv0);
-    written = qollqamir_write_psv0(0, runtime, 24, none, 0, none, 0, none, 0, none, 0, none, 0, psv0, 33);
+    written = qollqamir_write_psv0(0, s.runtime, 24, none, 0, none, 0, none, 0, none, 0, none, 0, psv0, 33);
     ACCEPTED(written);
-    CHECK(written.len == 32 && get32(psv0) == 24 && memcmp(psv0 + 4, runtime, 24) == 0 && get32(psv0 + 28) == 0);
+    CHECK(written.len == 32 && get32(psv0) == 24 && memcmp(psv0 + 4, s.runtime, 24) == 0 && get32(psv0 + 28) == 0);
     CHECK(psv0[32] == 0xee);
     /* A container without parts. */
     written = qollqamir_assemble(none, 0, sizes, 0, none, 0, name("0123456789abcdef"), 16, out, 32);
@@ -436,6 +446,358 @@ static void test_writers(void) {
     CHECK(written.len == 32);
     CHECK(qollqamir_table(out, 32).verdict.number == 0 && qollqamir_table(out, 32).count == 0);
     REFUSED(qollqamir_open(out, 32, 0), 10, 0);
+#undef WRITE
+#undef ASSEMBLE
+}
+
+/* ---- every byte of an answer */
+
+/* The calls. Those up to OPEN_DEFAULT take no edition; those on PSV0 data alone stand in the order of those on containers. */
+enum call {
+    TABLE, TABLE_PART, KNOWN, OPEN_DEFAULT, PART,
+    OPEN, INFO, RESOURCE, ELEMENT, LENGTHS, VIEW, SECTION,
+    PSV0_OPEN, PSV0_INFO, PSV0_RESOURCE, PSV0_ELEMENT, PSV0_LENGTHS, PSV0_VIEW, PSV0_SECTION,
+    WRITE_PSV0, ASSEMBLE, CALLS
+};
+
+/* A call and what it is handed. A writer's byte arguments lie end to end in bytes, and pieces has their lengths. */
+struct question {
+    enum call call;
+    const uint8_t *bytes;
+    size_t len, edition;
+    const char *name;
+    uint32_t kind;
+    size_t number;
+    const size_t *pieces;
+    const uint32_t *sizes;
+    uint8_t *out;
+    size_t room;
+};
+
+/* Where a writer's argument i starts; where bytes are cut short, it has what is left. */
+static size_t start(const struct question *q, int i) {
+    size_t at = 0;
+    while (i-- > 0) {
+        at += q->pieces[i];
+    }
+    return at < q->len ? at : q->len;
+}
+
+/* The call that was made last. */
+static const char *called;
+
+/* The answer stands in this frame before it is copied, padding and all. */
+__attribute__((noinline)) static size_t answer(const struct question *q, uint8_t *to) {
+    const uint8_t *b = q->bytes, *four = (const uint8_t *)q->name;
+    size_t n = q->len, e = q->edition, i = q->number;
+    uint32_t k = q->kind;
+#define ANSWER(type, call)         \
+    {                              \
+        called = #call;            \
+        type a = call;             \
+        memcpy(to, &a, sizeof a);  \
+        return sizeof a;           \
+    }
+#define PIECE(i) b + start(q, i), start(q, i + 1) - start(q, i)
+    switch (q->call) {
+    case TABLE: ANSWER(qollqamir_parts, qollqamir_table(b, n))
+    case TABLE_PART: ANSWER(qollqamir_found, qollqamir_table_part(b, n, four))
+    case KNOWN: ANSWER(bool, qollqamir_known(four))
+    case OPEN_DEFAULT: ANSWER(qollqamir_opening, qollqamir_open_default(b, n))
+    case PART: ANSWER(qollqamir_found, qollqamir_part(b, n, e, four))
+    case OPEN: ANSWER(qollqamir_opening, qollqamir_open(b, n, e))
+    case INFO: ANSWER(qollqamir_info, qollqamir_runtime_info(b, n, e))
+    case RESOURCE: ANSWER(qollqamir_resource_record, qollqamir_resource(b, n, e, i))
+    case ELEMENT: ANSWER(qollqamir_element_record, qollqamir_element(b, n, e, i))
+    case LENGTHS: ANSWER(qollqamir_list_lengths, qollqamir_lengths(b, n, e))
+    case VIEW: ANSWER(qollqamir_span, qollqamir_view(b, n, e, k, i))
+    case SECTION: ANSWER(qollqamir_span, qollqamir_section(b, n, e, k))
+    case PSV0_OPEN: ANSWER(qollqamir_opening, qollqamir_psv0_open(b, n, e))
+    case PSV0_INFO: ANSWER(qollqamir_info, qollqamir_psv0_runtime_info(b, n, e))
+    case PSV0_RESOURCE: ANSWER(qollqamir_resource_record, qollqamir_psv0_resource(b, n, e, i))
+    case PSV0_ELEMENT: ANSWER(qollqamir_element_record, qollqamir_psv0_element(b, n, e, i))
+    case PSV0_LENGTHS: ANSWER(qollqamir_list_lengths, qollqamir_psv0_lengths(b, n, e))
+    case PSV0_VIEW: ANSWER(qollqamir_span, qollqamir_psv0_view(b, n, e, k, i))
+    case PSV0_SECTION: ANSWER(qollqamir_span, qollqamir_psv0_section(b, n, e, k))
+    case WRITE_PSV0:
+        ANSWER(qollqamir_written, qollqamir_write_psv0(e, PIECE(0), PIECE(1), PIECE(2), PIECE(3), PIECE(4), PIECE(5), q->out, q->room))
+    case ASSEMBLE: ANSWER(qollqamir_written, qollqamir_assemble(PIECE(0), q->sizes, 2, PIECE(1), PIECE(2), q->out, q->room))
+    case CALLS: break;
+    }
+    return 0;
+}
+
+/* The same from deeper in the stack. */
+__attribute__((noinline)) static size_t answer_deeper(const struct question *q, uint8_t *to) {
+    volatile uint8_t frame[1000];
+    frame[0] = 0;
+    return answer(q, to) + frame[0];
+}
+
+/* Fills the stack that the caller's next call will use, several times what any call needs. Called through a volatile pointer, memset is
+   not left out. */
+__attribute__((noinline)) static void fill(uint8_t pattern) {
+    static void *(*const volatile set)(void *, int, size_t) = memset;
+    uint8_t stack[32768];
+    set(stack, pattern, sizeof stack);
+}
+
+static void same(const char *what, const uint8_t *a, const uint8_t *b, size_t len) {
+    checks++;
+    if (memcmp(a, b, len) != 0) {
+        size_t i = 0;
+        while (a[i] == b[i]) {
+            i++;
+        }
+        fprintf(stderr, "%s: %s differ at byte %zu of %zu: %02x and %02x\n", called, what, i, len, a[i], b[i]);
+        exit(1);
+    }
+}
+
+static size_t asked, paired, triples, accepted[CALLS], refused[CALLS];
+
+/* The first refused answer of a call with a number and a place, and the bytes that it refused. */
+static struct refusal {
+    uint8_t answer[sizeof(qollqamir_parts)], bytes[512];
+    size_t answer_len, len;
+    bool paired;
+} refusals[CALLS][29][4];
+
+/* Asks twice. The second time the stack and the answer's place hold another pattern, and the bytes, the output and the stack are at other
+   addresses, so that neither what was in memory before nor an address can stand in both answers alike. A refused answer is also compared
+   with the first that was refused alike. */
+static qollqamir_verdict ask(const struct question *question) {
+    static const uint8_t patterns[4] = {0x00, 0xa5, 0xff, 0x5a};
+    static uint8_t answers[2][sizeof(qollqamir_parts)], bytes[2][1000], outs[2][1000];
+    struct question copy = *question, *q = &copy;
+    size_t len = 0;
+    for (size_t i = 0; i < 2; i++) {
+        uint8_t pattern = patterns[(asked + i) % 4];
+        if (question->bytes != NULL) {
+            q->bytes = bytes[i];
+            put(bytes[i], question->bytes, q->len);
+        }
+        q->out = outs[i];
+        memset(outs[i], 0xee, sizeof outs[i]);
+        memset(answers[i], pattern, sizeof answers[i]);
+        fill(pattern);
+        len = i == 0 ? answer(q, answers[i]) : answer_deeper(q, answers[i]);
+    }
+    asked++;
+    same("answers", answers[0], answers[1], len);
+    same("outputs", outs[0], outs[1], sizeof outs[0]);
+
+    qollqamir_verdict verdict = {0, 0};
+    if (q->call == KNOWN) {
+        (answers[0][0] ? accepted : refused)[KNOWN]++;
+        return verdict;
+    }
+    memcpy(&verdict, answers[0], sizeof verdict);
+    if (verdict.number == 0) {
+        accepted[q->call]++;
+        return verdict;
+    }
+    refused[q->call]++;
+    CHECK(verdict.number <= 28 && verdict.place < 4);
+    struct refusal *first = &refusals[q->call][verdict.number][verdict.place];
+    if (first->answer_len == 0) {
+        first->answer_len = put(first->answer, answers[0], len);
+        first->len = q->len == 0 ? 0 : put(first->bytes, q->bytes, q->len);
+    }
+    same("refused answers", first->answer, answers[0], len);
+    if (first->len != q->len || (q->len != 0 && memcmp(first->bytes, q->bytes, q->len) != 0)) {
+        paired++;
+        triples += !first->paired;
+        first->paired = true;
+    }
+    return verdict;
+}
+
+/* What is asked of a container; from OPEN on, of PSV0 data alone too. */
+static const struct question queries[] = {
+    {.call = TABLE},
+    {.call = TABLE_PART, .name = "PSV0"},
+    {.call = TABLE_PART, .name = "VERS"},
+    {.call = OPEN_DEFAULT},
+    {.call = PART, .name = "PSV0"},
+    {.call = PART, .name = "VERS"},
+    {.call = OPEN},
+    {.call = INFO},
+    {.call = RESOURCE, .number = 0},
+    {.call = RESOURCE, .number = 9},
+    {.call = ELEMENT, .number = 0},
+    {.call = ELEMENT, .number = 9},
+    {.call = LENGTHS},
+    {.call = VIEW, .kind = QOLLQAMIR_STAGE_UNION},
+    {.call = VIEW, .kind = QOLLQAMIR_ELEMENT_STRING, .number = 0},
+    {.call = VIEW, .kind = QOLLQAMIR_ELEMENT_STRING, .number = 9},
+    {.call = VIEW, .kind = QOLLQAMIR_ELEMENT_ARRAY, .number = 0},
+    {.call = VIEW, .kind = QOLLQAMIR_ELEMENT_ARRAY, .number = 9},
+    {.call = VIEW, .kind = QOLLQAMIR_ENTRY_NAME},
+    {.call = VIEW, .kind = QOLLQAMIR_MASK, .number = 0},
+    {.call = VIEW, .kind = QOLLQAMIR_MASK, .number = 4},
+    {.call = VIEW, .kind = QOLLQAMIR_MASK, .number = 10},
+    {.call = VIEW, .kind = QOLLQAMIR_MASK, .number = 11},
+    {.call = VIEW, .kind = 5},
+    {.call = SECTION, .kind = QOLLQAMIR_RUNTIME_RECORD},
+    {.call = SECTION, .kind = QOLLQAMIR_RESOURCE_RECORDS},
+    {.call = SECTION, .kind = QOLLQAMIR_STRING_TABLE},
+    {.call = SECTION, .kind = QOLLQAMIR_INDEX_TABLE},
+    {.call = SECTION, .kind = QOLLQAMIR_ELEMENT_RECORDS},
+    {.call = SECTION, .kind = QOLLQAMIR_MASKS},
+    {.call = SECTION, .kind = 6},
+};
+enum { QUERIES = sizeof queries / sizeof *queries };
+
+/* Every query of a container, or of PSV0 data alone, at every edition and one that there is not. */
+static void ask_reader(struct question file) {
+    bool alone = file.call == PSV0_OPEN;
+    for (size_t edition = 0; edition <= 4; edition++) {
+        for (size_t i = 0; i < QUERIES; i++) {
+            struct question q = queries[i];
+            if ((alone && q.call < OPEN) || (edition != 0 && q.call <= OPEN_DEFAULT)) {
+                continue;
+            }
+            q.call += alone ? PSV0_OPEN - OPEN : 0;
+            q.bytes = file.bytes;
+            q.len = file.len;
+            q.edition = edition;
+            ask(&q);
+        }
+    }
+}
+
+/* A writer with room for all and with a byte too little, at every edition where it takes one. */
+static void ask_writer(struct question q) {
+    for (q.edition = 0; q.edition <= (q.call == WRITE_PSV0 ? 4 : 0); q.edition++) {
+        ask(&q);
+        q.room--;
+        ask(&q);
+        q.room++;
+    }
+}
+
+/* The bytes, every prefix of them, and the bytes with each one changed in turn. */
+static void around(void (*ask_all)(struct question), struct question q, uint8_t *bytes) {
+    static const uint8_t changes[] = {0x01, 0x40, 0x80, 0xff};
+    size_t len = q.len;
+    q.bytes = bytes;
+    for (q.len = 0; q.len < len; q.len++) {
+        ask_all(q);
+    }
+    ask_all(q);
+    for (size_t i = 0; i < len; i++) {
+        for (size_t k = 0; k < sizeof changes; k++) {
+            bytes[i] ^= changes[k];
+            ask_all(q);
+            bytes[i] ^= changes[k];
+        }
+    }
+}
+
+/* PSV0 data of the hull shader. */
+static size_t box_hull(uint8_t *out) {
+    struct sections s = hull();
+    qollqamir_written written =
+        qollqamir_write_psv0(3, s.runtime, sizeof s.runtime, s.resources, sizeof s.resources, s.strings, sizeof s.strings, s.indices,
+                             sizeof s.indices, s.elements, sizeof s.elements, s.masks, sizeof s.masks, out, 512);
+    ACCEPTED(written);
+    return written.len;
+}
+
+/* The bytes of the sections of PSV0 data end to end, and their lengths. */
+static size_t sections_of(const uint8_t *psv0, size_t len, uint8_t *out, size_t *pieces) {
+    size_t n = 0;
+    for (uint32_t section = 0; section < 6; section++) {
+        qollqamir_span span = qollqamir_psv0_section(psv0, len, 3, section);
+        ACCEPTED(span);
+        pieces[section] = span.len;
+        n += put(out + n, psv0 + span.start, span.len);
+    }
+    return n;
+}
+
+static void test_every_byte(void) {
+    static const char *const names[] = {"DXIL", "VERS", "XXXX", "dxil"};
+    for (int i = 0; i < 4; i++) {
+        ask(&(struct question){.call = KNOWN, .name = names[i]});
+    }
+    for (int box = 0; box < 3; box++) {
+        uint8_t psv0[512], bytes[512];
+        size_t pieces[6];
+        size_t len = box == 0 ? box_m(psv0, 24, 24) : box == 1 ? box_c(psv0, 52, 1) : box_hull(psv0);
+        around(ask_reader, (struct question){.call = PSV0_OPEN, .len = len}, psv0);
+        size_t n = shader(bytes, psv0, len);
+        around(ask_reader, (struct question){.call = OPEN, .len = n}, bytes);
+        put(bytes + 52, "DXIL", 4);
+        ask_reader((struct question){.call = OPEN, .bytes = bytes, .len = n});
+        n = sections_of(psv0, len, bytes, pieces);
+        around(ask_writer, (struct question){.call = WRITE_PSV0, .len = n, .pieces = pieces, .room = len}, bytes);
+
+        const uint32_t sizes[2] = {4, (uint32_t)len};
+        const size_t lengths[3] = {8, 4 + len, 16};
+        for (int twice = 0; twice < 2; twice++) {
+            n = put(bytes, twice ? "DXILDXILcode" : "DXILPSV0code", 12);
+            n += put(bytes + n, psv0, len);
+            n += put(bytes + n, "0123456789abcdef", 16);
+            struct question q = {.call = ASSEMBLE, .len = n, .pieces = lengths, .sizes = sizes, .room = 60 + len};
+            around(ask_writer, q, bytes);
+        }
+    }
+    for (int call = 0; call < CALLS; call++) {
+        CHECK(accepted[call] > 0 && refused[call] > 0);
+    }
+    CHECK(triples >= 400);
+    printf("c answers: %zu calls made twice; %zu refused answers equal to that of another file, of %zu calls, numbers and places\n", asked,
+           paired, triples);
+}
+
+/* ---- null pointers */
+
+/* Every pointer that comes with a length is null where that is 0. */
+static void test_null(void) {
+    for (size_t edition = 0; edition <= 4; edition++) {
+        for (size_t i = 0; i < QUERIES; i++) {
+            struct question q = queries[i];
+            q.edition = edition;
+            qollqamir_verdict verdict = ask(&q);
+            CHECK(verdict.number == (edition == 4 && q.call > OPEN_DEFAULT ? 25 : 1) && verdict.place == 0);
+            if (q.call >= OPEN) {
+                q.call += PSV0_OPEN - OPEN;
+                verdict = ask(&q);
+                CHECK(verdict.number == (edition == 4 ? 25 : 12) && verdict.place == 0);
+            }
+        }
+    }
+
+    uint8_t runtime[52] = {0}, out[64];
+    const uint8_t *digest = name("0123456789abcdef");
+#define WRITE(edition, runtime, runtime_len, out, out_len) \
+    qollqamir_write_psv0(edition, runtime, runtime_len, NULL, 0, NULL, 0, NULL, 0, NULL, 0, NULL, 0, out, out_len)
+    static const size_t lengths[4] = {24, 36, 48, 52};
+    for (size_t edition = 0; edition <= 3; edition++) {
+        REFUSED(WRITE(edition, NULL, 0, NULL, 0), 27, 0);
+        /* At edition 3 the entry name needs a string. */
+        REFUSED(WRITE(edition, runtime, lengths[edition], NULL, 0), edition == 3 ? 24 : 28, 0);
+    }
+    REFUSED(WRITE(4, NULL, 0, NULL, 0), 25, 0);
+    for (size_t edition = 0; edition <= 2; edition++) {
+        qollqamir_written written = WRITE(edition, runtime, lengths[edition], out, sizeof out);
+        ACCEPTED(written);
+        CHECK(written.len == lengths[edition] + (edition == 0 ? 8 : 16));
+        CHECK(qollqamir_psv0_open(out, written.len, 3).edition_read == edition);
+    }
+#undef WRITE
+    REFUSED(qollqamir_assemble(NULL, 0, NULL, 0, NULL, 0, NULL, 0, NULL, 0), 27, 0);
+    REFUSED(qollqamir_assemble(NULL, 0, NULL, 0, NULL, 0, digest, 16, NULL, 0), 28, 0);
+    qollqamir_written written = qollqamir_assemble(NULL, 0, NULL, 0, NULL, 0, digest, 16, out, sizeof out);
+    ACCEPTED(written);
+    CHECK(written.len == 32 && qollqamir_table(out, 32).verdict.number == 0);
+    const uint32_t size = 0;
+    REFUSED(qollqamir_assemble(NULL, 0, &size, 1, NULL, 0, digest, 16, out, sizeof out), 27, 0);
+    written = qollqamir_assemble(name("DXIL"), 4, &size, 1, NULL, 0, digest, 16, out, sizeof out);
+    ACCEPTED(written);
+    CHECK(written.len == 44 && qollqamir_table_part(out, 44, name("DXIL")).size == 0);
 }
 
 int main(void) {
@@ -443,6 +805,8 @@ int main(void) {
     test_box_c();
     test_last_entries();
     test_writers();
+    test_every_byte();
+    test_null();
     printf("c boundary: %d checks passed\n", checks);
     return 0;
 }

@@ -1,6 +1,5 @@
 -- What crosses the boundary, from what the calls answer.
 use mathlib.Core.Path.{_≡_}
-use mathlib.Core.Bool.{true, false}
 use mathlib.Core.List.{List, []}
 use Prim.Native.Nat.{ℕ, _+_, _≤_}
 use lib.Dec.{eqb, ltb}
@@ -45,9 +44,10 @@ use Rattle.qollqamir.specs.declared.CWritten.{CWritten}
 abbrev pub cVerdict : Verdict → CVerdict
 cVerdict v = record { number = numberOf v; place = placeOf v }
 
+-- 1 and the number where the field is set, 0 and 0 where it is not
 abbrev pub cField : Field → CField
-cField (Set n) = record { set = true; value = n }
-cField Unset = record { set = false; value = 0 }
+cField (Set n) = record { set = 1; value = n }
+cField Unset = record { set = 0; value = 0 }
 
 unfoldable pub cTable : Table → CTable
 cTable t =

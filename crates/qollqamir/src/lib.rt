@@ -1,5 +1,6 @@
 // The library for programs in C and Rust: every public call, with plain structs for its answers. A view crosses as where it starts and its
 // length. Beside a refusal every number is 0 and no field is set. include/qollqamir.h documents each call.
+// No struct has padding: a field is as wide as its place, so that each byte of an answer is a byte of a field that the promise names.
 use assembler_layout::Assembly;
 use container::ContainerOpening;
 use part_table_layout::Part;
@@ -35,14 +36,14 @@ ghost use Rattle.qollqamir.specs.Boundary.{cVerdict, cField, cTable, cPa
 // A verdict: the refusal's number, 0 where the call accepts, and its place.
 #[repr(C)]
 pub struct CVerdict {
-    pub number: u8,
+    pub number: usize,
     pub place: usize,
 }
 
-// A value: whether it is set, and its number, 0 where it is not.
+// A value: 1 where it is set, 0 where it is not, and its number, 0 where it is not.
 #[repr(C)]
 pub struct CField {
-    pub set: bool,
+    pub set: u32,
     pub value: u32,
 }
 
@@ -163,7 +164,10 @@ fn c_verdict(v: Verdict) -> CVerdict
             number: 0,
             place: 0,
         },
-        Verdict::Refused(number, place) => CVerdict { number, place },
+        Verdict::Refused(number, place) => CVerdict {
+            number: number as usize,
+            place,
+        },
     }
 }
 
@@ -171,11 +175,8 @@ fn c_field(f: Field) -> CField
     ensures { λ r. ⌜ r ≡ cField f ⌝ }
 {
     match f {
-        Field::Set(value) => CField { set: true, value },
-        Field::Unset => CField {
-            set: false,
-            value: 0,
-        },
+        Field::Set(value) => CField { set: 1, value },
+        Field::Unset => CField { set: 0, value: 0 },
     }
 }
 

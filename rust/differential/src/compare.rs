@@ -59,7 +59,7 @@ pub struct Hits {
 
 impl Hits {
     pub fn note(&mut self, call: Call, verdict: raw::Verdict) {
-        let number = usize::from(verdict.number);
+        let number = verdict.number;
         self.counts[call as usize][number] += 1;
         if [8, 9, 22, 23].contains(&number) {
             self.places[call as usize][number].insert(verdict.place);
@@ -70,12 +70,12 @@ impl Hits {
 pub fn verdict_of<T>(answer: &Result<T, Refusal>) -> raw::Verdict {
     match answer {
         Ok(_) => raw::Verdict { number: 0, place: 0 },
-        Err(refusal) => raw::Verdict { number: refusal.number, place: refusal.place },
+        Err(refusal) => raw::Verdict { number: refusal.number.into(), place: refusal.place },
     }
 }
 
 fn field(value: Option<u32>) -> raw::Field {
-    raw::Field { set: value.is_some(), value: value.unwrap_or(0) }
+    raw::Field { set: value.is_some().into(), value: value.unwrap_or(0) }
 }
 
 fn parts_of(answer: &Result<Vec<reference::Part>, Refusal>) -> raw::Parts {
@@ -448,7 +448,7 @@ fn delivered(
 pub fn shown(reader: &Reader, bytes: &[u8], edition: usize, resources: usize, elements: usize) -> Vec<Option<Vec<u8>>> {
     let mut all = Vec::new();
     let put = |all: &mut Vec<Option<Vec<u8>>>, fields: &[raw::Field]| {
-        all.extend(fields.iter().map(|f| f.set.then(|| f.value.to_le_bytes().to_vec())));
+        all.extend(fields.iter().map(|f| (f.set != 0).then(|| f.value.to_le_bytes().to_vec())));
     };
     let view = |all: &mut Vec<Option<Vec<u8>>>, kind, number| {
         let span = (reader.view)(bytes, edition, kind, number);

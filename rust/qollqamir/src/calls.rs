@@ -2,133 +2,129 @@
 //! of `include/qollqamir.h`; nothing checks that they agree, so the tests look at the last field of each.
 #![allow(unsafe_code, missing_docs)]
 
-/// A verdict: the refusal's number, 0 where the call accepts, and its place.
-#[repr(C)]
-#[derive(Clone, Copy, Debug, PartialEq, Eq)]
-pub struct Verdict {
-    pub number: u8,
-    pub place: usize,
+use std::mem::size_of;
+
+/// Declares structs of the header. None has padding: its size is the sum of the sizes of its fields.
+macro_rules! structs {
+    ($($(#[$doc:meta])* $name:ident { $($field:ident: $type:ty,)* })*) => {
+        $($(#[$doc])*
+        #[repr(C)]
+        #[derive(Clone, Copy, Debug, PartialEq, Eq)]
+        pub struct $name {
+            $(pub $field: $type,)*
+        }
+
+        const _: () = assert!(size_of::<$name>() == 0 $(+ size_of::<$type>())*, concat!(stringify!($name), " has padding"));)*
+    };
 }
 
-/// A value: whether it is set, and its number, 0 where it is not.
-#[repr(C)]
-#[derive(Clone, Copy, Debug, PartialEq, Eq)]
-pub struct Field {
-    pub set: bool,
-    pub value: u32,
-}
+structs! {
+    /// A verdict: the refusal's number, 0 where the call accepts, and its place.
+    Verdict {
+        number: usize,
+        place: usize,
+    }
 
-/// A part table; entries from `count` on are 0.
-#[repr(C)]
-#[derive(Clone, Copy, Debug, PartialEq, Eq)]
-pub struct Parts {
-    pub verdict: Verdict,
-    pub count: usize,
-    pub names: [u32; 96],
-    pub offsets: [u32; 96],
-    pub sizes: [u32; 96],
-}
+    /// A value: 1 where it is set, 0 where it is not, and its number, 0 where it is not.
+    Field {
+        set: u32,
+        value: u32,
+    }
 
-/// A part: its number, the offset of its header and its data size.
-#[repr(C)]
-#[derive(Clone, Copy, Debug, PartialEq, Eq)]
-pub struct Found {
-    pub verdict: Verdict,
-    pub number: usize,
-    pub offset: usize,
-    pub size: usize,
-}
+    /// A part table; entries from `count` on are 0.
+    Parts {
+        verdict: Verdict,
+        count: usize,
+        names: [u32; 96],
+        offsets: [u32; 96],
+        sizes: [u32; 96],
+    }
 
-/// An opening: the number of parts, the file's edition and the edition read.
-#[repr(C)]
-#[derive(Clone, Copy, Debug, PartialEq, Eq)]
-pub struct Opening {
-    pub verdict: Verdict,
-    pub parts: usize,
-    pub file_edition: usize,
-    pub edition_read: usize,
-}
+    /// A part: its number, the offset of its header and its data size.
+    Found {
+        verdict: Verdict,
+        number: usize,
+        offset: usize,
+        size: usize,
+    }
 
-/// The fields of the runtime record.
-#[repr(C)]
-#[derive(Clone, Copy, Debug, PartialEq, Eq)]
-pub struct Info {
-    pub verdict: Verdict,
-    pub minimum_wave_lanes: Field,
-    pub maximum_wave_lanes: Field,
-    pub stage: Field,
-    pub uses_view_id: Field,
-    pub max_vertex_count: Field,
-    pub patch_vectors: Field,
-    pub mesh_topology: Field,
-    pub input_elements: Field,
-    pub output_elements: Field,
-    pub patch_elements: Field,
-    pub input_vectors: Field,
-    pub output_vectors: [Field; 4],
-    pub threads: [Field; 3],
-    pub entry_name_offset: Field,
-}
+    /// An opening: the number of parts, the file's edition and the edition read.
+    Opening {
+        verdict: Verdict,
+        parts: usize,
+        file_edition: usize,
+        edition_read: usize,
+    }
 
-/// A resource binding's record.
-#[repr(C)]
-#[derive(Clone, Copy, Debug, PartialEq, Eq)]
-pub struct Resource {
-    pub verdict: Verdict,
-    pub binding_type: Field,
-    pub space: Field,
-    pub lower_bound: Field,
-    pub upper_bound: Field,
-    pub kind: Field,
-    pub flags: Field,
-}
+    /// The fields of the runtime record.
+    Info {
+        verdict: Verdict,
+        minimum_wave_lanes: Field,
+        maximum_wave_lanes: Field,
+        stage: Field,
+        uses_view_id: Field,
+        max_vertex_count: Field,
+        patch_vectors: Field,
+        mesh_topology: Field,
+        input_elements: Field,
+        output_elements: Field,
+        patch_elements: Field,
+        input_vectors: Field,
+        output_vectors: [Field; 4],
+        threads: [Field; 3],
+        entry_name_offset: Field,
+    }
 
-/// A signature element's record.
-#[repr(C)]
-#[derive(Clone, Copy, Debug, PartialEq, Eq)]
-pub struct Element {
-    pub verdict: Verdict,
-    pub name_offset: Field,
-    pub index_reference: Field,
-    pub rows: Field,
-    pub start_row: Field,
-    pub columns: Field,
-    pub start_column: Field,
-    pub allocated: Field,
-    pub semantic_kind: Field,
-    pub component_type: Field,
-    pub interpolation: Field,
-    pub dynamic_mask: Field,
-    pub stream: Field,
-    pub reserved: Field,
-}
+    /// A resource binding's record.
+    Resource {
+        verdict: Verdict,
+        binding_type: Field,
+        space: Field,
+        lower_bound: Field,
+        upper_bound: Field,
+        kind: Field,
+        flags: Field,
+    }
 
-/// The lists' lengths: R, T in bytes, N and E.
-#[repr(C)]
-#[derive(Clone, Copy, Debug, PartialEq, Eq)]
-pub struct Lengths {
-    pub verdict: Verdict,
-    pub resources: Field,
-    pub strings: Field,
-    pub indices: Field,
-    pub elements: Field,
-}
+    /// A signature element's record.
+    Element {
+        verdict: Verdict,
+        name_offset: Field,
+        index_reference: Field,
+        rows: Field,
+        start_row: Field,
+        columns: Field,
+        start_column: Field,
+        allocated: Field,
+        semantic_kind: Field,
+        component_type: Field,
+        interpolation: Field,
+        dynamic_mask: Field,
+        stream: Field,
+        reserved: Field,
+    }
 
-/// A stretch of the bytes that were handed in.
-#[repr(C)]
-#[derive(Clone, Copy, Debug, PartialEq, Eq)]
-pub struct Span {
-    pub verdict: Verdict,
-    pub start: usize,
-    pub len: usize,
-}
+    /// The lists' lengths: R, T in bytes, N and E.
+    Lengths {
+        verdict: Verdict,
+        resources: Field,
+        strings: Field,
+        indices: Field,
+        elements: Field,
+    }
 
-/// What a writer did: the length of its result, 0 beside a refusal.
-#[repr(C)]
-#[derive(Clone, Copy, Debug, PartialEq, Eq)]
-pub struct Written {
-    pub verdict: Verdict,
-    pub len: usize,
+    /// A stretch of the bytes that were handed in.
+    Span {
+        verdict: Verdict,
+        start: usize,
+        len: usize,
+    }
+
+    /// What a writer did: the length of its result, 0 beside a refusal.
+    Written {
+        verdict: Verdict,
+        len: usize,
+    }
 }
 
 mod archive {
@@ -188,8 +184,8 @@ mod archive {
 
 // SAFETY, of every call below: the archive's functions have no requirement beyond valid memory, and promise an answer for any bytes. Each
 // pointer comes with the length of its own slice (a name with its four bytes), which stays borrowed during the call; the library reads and
-// writes nothing else and keeps no pointer. `out` is borrowed mutably, so it overlaps no other slice. The answers are plain structs whose
-// `bool`s the library sets to 0 or 1.
+// writes nothing else and keeps no pointer. `out` is borrowed mutably, so it overlaps no other slice. The answers are structs of numbers;
+// the `bool` of `qollqamir_known` is 0 or 1.
 
 macro_rules! readers {
     ($($(#[$doc:meta])* $call:ident => $function:ident($($argument:ident: $type:ty),*) -> $answer:ty;)*) => {

@@ -153,14 +153,14 @@ pub struct Sections<'a> {
 }
 
 fn judged(verdict: raw::Verdict) -> Result<(), Refusal> {
-    match verdict.number {
+    match u8::try_from(verdict.number).expect("a number of document 01 is at most 28") {
         0 => Ok(()),
         number => Err(Refusal { number, place: verdict.place }),
     }
 }
 
 fn value(field: raw::Field) -> Option<u32> {
-    field.set.then_some(field.value)
+    (field.set != 0).then_some(field.value)
 }
 
 fn shown(bytes: &[u8], span: raw::Span) -> Result<&[u8], Refusal> {

@@ -14,5 +14,6 @@ pub c-verdict-spec : {M : Type 1} → statement M
 c-verdict-spec = tie.close (tie.spec
     (λ c. search needs)
     (λ c. search needs)
+    (λ c. search needs)
     returns
     returns-2)
