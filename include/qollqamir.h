@@ -117,7 +117,7 @@ typedef struct {
     qollqamir_field elements;
 } qollqamir_list_lengths;
 
-/* A stretch of the bytes that were handed in. */
+/* A stretch of the bytes that were handed in. Where it is empty and accepted, its start is left open. */
 typedef struct {
     qollqamir_verdict verdict;
     size_t start;

@@ -474,7 +474,7 @@ struct question {
     size_t room;
 };
 
-/* Where a writer's argument i starts; where bytes are cut short, it has what is left. */
+/* Where a writer's argument i starts; the last ones have less or nothing where bytes are cut short. */
 static size_t start(const struct question *q, int i) {
     size_t at = 0;
     while (i-- > 0) {
@@ -491,12 +491,12 @@ __attribute__((noinline)) static size_t answer(const struct question *q, uint8_t
     const uint8_t *b = q->bytes, *four = (const uint8_t *)q->name;
     size_t n = q->len, e = q->edition, i = q->number;
     uint32_t k = q->kind;
-#define ANSWER(type, call)         \
-    {                              \
-        called = #call;            \
-        type a = call;             \
-        memcpy(to, &a, sizeof a);  \
-        return sizeof a;           \
+#define ANSWER(type, call)        \
+    {                             \
+        called = #call;           \
+        type a = call;            \
+        memcpy(to, &a, sizeof a); \
+        return sizeof a;          \
     }
 #define PIECE(i) b + start(q, i), start(q, i + 1) - start(q, i)
     switch (q->call) {
@@ -563,9 +563,9 @@ static struct refusal {
     bool paired;
 } refusals[CALLS][29][4];
 
-/* Asks twice. The second time the stack and the answer's place hold another pattern, and the bytes, the output and the stack are at other
-   addresses, so that neither what was in memory before nor an address can stand in both answers alike. A refused answer is also compared
-   with the first that was refused alike. */
+/* Asks twice and compares. The second time the stack and the answer's place hold another pattern, and the bytes, the output and the stack
+   are at other addresses: what stood in memory before would differ, and an address too. A refused answer is also compared with the first
+   that has the same call, number and place. */
 static qollqamir_verdict ask(const struct question *question) {
     static const uint8_t patterns[4] = {0x00, 0xa5, 0xff, 0x5a};
     static uint8_t answers[2][sizeof(qollqamir_parts)], bytes[2][1000], outs[2][1000];
@@ -729,6 +729,7 @@ static void test_every_byte(void) {
         around(ask_reader, (struct question){.call = PSV0_OPEN, .len = len}, psv0);
         size_t n = shader(bytes, psv0, len);
         around(ask_reader, (struct question){.call = OPEN, .len = n}, bytes);
+        /* One name twice, which no single changed byte makes. */
         put(bytes + 52, "DXIL", 4);
         ask_reader((struct question){.call = OPEN, .bytes = bytes, .len = n});
         n = sections_of(psv0, len, bytes, pieces);
