@@ -1,24 +1,28 @@
-//! A reader and writer of DirectX containers and their PSV0 part, written
-//! from documents 000, 001 and 01 alone. It is a second opinion: every rule
-//! stands here as directly as it can be said, so that another reader can be
-//! held against it.
+//! A reader and writer of DirectX containers and their PSV0 part, and a reader
+//! of the DXIL part's header, written from documents 000, 001 and 01 and request
+//! 1 of 02 alone. It is a second opinion: every rule stands here as directly as
+//! it can be said, so that another reader can be held against it.
 //!
 //! * [`table`] reads the part table (refusals 1 to 9).
 //! * [`open`] opens a whole container, [`open_psv0`] PSV0 data alone; both give
 //!   an [`Opening`], whose methods are the queries (refusal 26).
+//! * [`program`] reads the header of DXIL data (refusals 40 to 42), and
+//!   [`program_report`] that of a container, with both stages.
 //! * [`write_psv0`] and [`assemble`] write, and [`plain`] says whether PSV0 data
 //!   has the form in which the writer would write it.
-//! * [`show`] prints all that an opening shows.
+//! * [`show`] prints all that an opening and the report on the program show.
 
 #![forbid(unsafe_code)]
 // Sizes are judged with the words of the papers: `% 4`, `(v + 7) / 8`.
 #![allow(clippy::manual_div_ceil, clippy::manual_is_multiple_of)]
 
+mod program;
 mod psv0;
 mod show;
 mod table;
 mod write;
 
+pub use program::{program, program_report, Program, ProgramReport, Stages};
 pub use psv0::{
     open, open_default, open_psv0, open_psv0_default, Element, Handed, Layout, Opening, Resource,
     Runtime,

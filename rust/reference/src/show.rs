@@ -1,6 +1,8 @@
-//! All that an opening and its queries show, one item a line.
+//! All that an opening, its queries and the report on its program show, one item
+//! a line.
 
-use crate::{known, open, Opening};
+use crate::program::report;
+use crate::{known, open, Opening, Stages};
 use std::fmt::Write;
 
 /// The lines for a container at an edition; every line ends with a line feed.
@@ -107,7 +109,28 @@ fn lines(opening: &Opening, text: &mut String) -> std::fmt::Result {
         };
         writeln!(text, "mask {number} {words}")?;
     }
-    Ok(())
+    program_lines(opening, text)
+}
+
+/// The program header, or its refusal.
+fn program_lines(opening: &Opening, text: &mut String) -> std::fmt::Result {
+    let report = match report(opening) {
+        Err(refusal) => return writeln!(text, "program {refusal}"),
+        Ok(report) => report,
+    };
+    let p = &report.program;
+    writeln!(text, "program version {} {} stage {} words {}", p.major, p.minor, p.stage, p.words)?;
+    writeln!(
+        text,
+        "bitcode version {} {} offset {} size {}",
+        p.bitcode_major, p.bitcode_minor, p.bitcode_offset, p.bitcode_size
+    )?;
+    let stages = match report.stages {
+        Stages::Equal => "equal",
+        Stages::Different => "different",
+        Stages::Unset => "unset",
+    };
+    writeln!(text, "stages {stages}")
 }
 
 /// A number, or `unset`.

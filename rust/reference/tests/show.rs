@@ -51,7 +51,8 @@ resources 0
 strings unset
 indices unset
 elements unset
-{UNSET_MASKS}"
+{UNSET_MASKS}program refused 40 0
+"
     );
     for edition in 0..=3 {
         assert_eq!(show(&shader(&box_m().bytes()), edition), expected);
@@ -61,7 +62,8 @@ elements unset
 #[test]
 fn everything() {
     let data = hull().bytes();
-    let bytes = container(&[(b"\x20\x7f!~", b""), (b"DXIL", b"c"), (b"PSV0", &data)]);
+    let code = dxil(3, b"bit");
+    let bytes = container(&[(b"\x20\x7f!~", b""), (b"DXIL", &code), (b"PSV0", &data)]);
     let mask = |from: usize, words: usize| -> String {
         hull().masks[from..from + 4 * words].iter().map(|byte| format!("{byte:02x}")).collect()
     };
@@ -69,8 +71,8 @@ fn everything() {
         "edition 3 read 3
 parts 3
 part 0 ??!~ 44 0 unknown
-part 1 DXIL 52 1 known
-part 2 PSV0 61 {} known
+part 1 DXIL 52 27 known
+part 2 PSV0 87 {} known
 stage_info a0a1a2a3a4a5a6a7a8a9aaabacadaeaf
 minimum_wave_lanes 4
 maximum_wave_lanes 4294967295
@@ -116,6 +118,9 @@ mask 7 empty
 mask 8 empty
 mask 9 {}
 mask 10 empty
+program version 6 5 stage 3 words 7
+bitcode version 1 7 offset 16 size 3
+stages equal
 ",
         data.len(),
         mask(0, 2),
@@ -132,6 +137,44 @@ mask 10 empty
         .replace("kind 5 flags 6\n", "kind unset flags unset\n")
         .replace("kind 50 flags 60\n", "kind unset flags unset\n");
     assert_eq!(show(&bytes, 1), first);
+}
+
+/// What follows the line of mask 10.
+fn after_masks(bytes: &[u8], edition: usize) -> String {
+    let text = show(bytes, edition);
+    let (_, rest) = text.split_once("\nmask 10 ").expect("it opens");
+    rest.split_once('\n').unwrap().1.to_string()
+}
+
+#[test]
+fn the_program_header() {
+    // The greatest numbers, with an offset inside the header.
+    let mut code = dxil(5, b"bitcode");
+    code[0] = 0xf0;
+    put4(&mut code, 4, u32::MAX);
+    code[12..14].copy_from_slice(&[255, 254]);
+    put4(&mut code, 16, 3);
+    put4(&mut code, 20, 20);
+    let with = |code: &[u8], psv0: &Psv0| container(&[(b"DXIL", code), (b"PSV0", &psv0.bytes())]);
+    let header = "program version 15 0 stage 5 words 4294967295
+bitcode version 254 255 offset 3 size 20
+";
+    for edition in 0..=3 {
+        let stages = if edition == 0 { "unset" } else { "equal" };
+        let expected = format!("{header}stages {stages}\n");
+        assert_eq!(after_masks(&with(&code, &box_c()), edition), expected);
+        let expected = format!("{header}stages unset\n");
+        assert_eq!(after_masks(&with(&code, &box_m()), edition), expected);
+    }
+    code[3] = 1;
+    let expected = header.replace("stage 5", "stage 261") + "stages different\n";
+    assert_eq!(after_masks(&with(&code, &box_c()), 1), expected);
+    put4(&mut code, 20, 21);
+    assert_eq!(after_masks(&with(&code, &box_c()), 1), "program refused 42 0\n");
+    code[8] = b'd';
+    assert_eq!(after_masks(&with(&code, &box_c()), 1), "program refused 41 0\n");
+    assert_eq!(after_masks(&with(&code[..23], &box_c()), 1), "program refused 40 0\n");
+    assert_eq!(show(&with(&[], &box_c()), 1), "refused 10 0\n");
 }
 
 #[test]

@@ -51,6 +51,19 @@ pub fn shader(psv0: &[u8]) -> Vec<u8> {
     container(&[(b"DXIL", b"code"), (b"PSV0", psv0)])
 }
 
+/// DXIL data: version 6.5, bitcode version 1.7, the bitcode right after the
+/// headers.
+pub fn dxil(stage: u16, bitcode: &[u8]) -> Vec<u8> {
+    let mut data = vec![0x65, 0];
+    data.extend_from_slice(&stage.to_le_bytes());
+    data.extend_from_slice(&words(&[(24 + bitcode.len()).div_ceil(4) as u32]));
+    data.extend_from_slice(b"DXIL");
+    data.extend_from_slice(&[7, 1, 0, 0]);
+    data.extend_from_slice(&words(&[16, bitcode.len() as u32]));
+    data.extend_from_slice(bitcode);
+    data
+}
+
 /// PSV0 data in pieces. Sections 3 to 6 are written when the runtime record
 /// has them, that is from 36 bytes on.
 #[derive(Clone, Debug, Default)]
