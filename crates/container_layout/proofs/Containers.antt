@@ -91,7 +91,7 @@ module _ (k : ℕ) (b : List ℕ) where
 
 -- ---- what stays the same in a widening
 module _ (k : ℕ) (b b′ : List ℕ) (w : WiderContainer k b b′) where
-  find-same : (x : ℕ) → find b′ x ≡ find b x
+  pub find-same : (x : ℕ) → find b′ x ≡ find b x
   unfolding find
   find-same x =
       let e = first-agree (hasName (nameAt b′) x) (hasName (nameAt b) x) (countOf b) (λ i l. let q = w .names i l in rw q) in

@@ -2,3 +2,4 @@ pub mod Boxes
 pub mod Containers
 pub mod Demand3
 pub mod Parts
+pub mod Reports

@@ -24,11 +24,11 @@ module _ (k : ℕ) (b : List ℕ) (x : ℕ) {r : Part} (hr : r ≡ containerPart
     ok : containerPart k b x .verdict ≡ Accepted
     ok = rw hr at h
 
-    opens : containerJudged k b ≡ Accepted
+    pub opens : containerJudged k b ≡ Accepted
     unfolding containerPart
     opens = accepted-if (containerJudged k b) b x ok
 
-    shown-part : r ≡ partAt b (find b x)
+    pub shown-part : r ≡ partAt b (find b x)
     unfolding containerPart
     shown-part = let o = opens in hr ∙ rw o
 

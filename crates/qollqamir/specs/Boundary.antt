@@ -1,15 +1,20 @@
 -- What crosses the boundary, from what the calls answer.
 use mathlib.Core.Path.{_≡_}
-use mathlib.Core.List.{List, []}
+use mathlib.Core.List.{List}
 use Prim.Native.Nat.{ℕ, _+_, _≤_}
 use lib.Dec.{eqb, ltb}
 use lib.ListN.{length, take, drop}
 use Rattle.wire.specs.Choice.{choose}
 use Rattle.wire.specs.Verdict.{numberOf, placeOf}
 use Rattle.wire.specs.declared.Verdict.{Verdict}
-use Rattle.wire.specs.declared.Verdict.the-variants.{Accepted, Refused}
+use Rattle.wire.specs.declared.Verdict.the-variants.{Refused}
 use Rattle.assembler_layout.specs.declared.Assembly.{Assembly}
 use Rattle.container.specs.declared.ContainerOpening.{ContainerOpening}
+use Rattle.dxil_layout.specs.declared.Program.{Program}
+use Rattle.dxil_layout.specs.declared.ProgramHeader.{ProgramHeader}
+use Rattle.dxil_report_layout.specs.declared.ProgramReport.{ProgramReport}
+use Rattle.dxil_report_layout.specs.declared.Stages.{Stages}
+use Rattle.dxil_report_layout.specs.declared.Stages.the-variants.{Equal, Different, Unset as NoStage}
 use Rattle.part_table_layout.specs.declared.Part.{Part}
 use Rattle.part_table_layout.specs.declared.Table.{Table}
 use Rattle.psv0_layout.specs.Answers.{bytesOf, bytesBeside, sectionOf}
@@ -39,6 +44,9 @@ use Rattle.qollqamir.specs.declared.CElement.{CElement}
 use Rattle.qollqamir.specs.declared.CLengths.{CLengths}
 use Rattle.qollqamir.specs.declared.CSpan.{CSpan}
 use Rattle.qollqamir.specs.declared.CWritten.{CWritten}
+use Rattle.qollqamir.specs.declared.CHeader.{CHeader}
+use Rattle.qollqamir.specs.declared.CProgram.{CProgram}
+use Rattle.qollqamir.specs.declared.CReport.{CReport}
 
 -- document 01's number and place of a verdict; 0 where it accepts
 abbrev pub cVerdict : Verdict → CVerdict
@@ -138,6 +146,39 @@ cWritten w = record { verdict = cVerdict (w .verdict); len = w .len }
 
 unfoldable pub cAssembly : Assembly → CWritten
 cAssembly w = record { verdict = cVerdict (w .verdict); len = w .len }
+
+unfoldable pub cHeader : ProgramHeader → CHeader
+cHeader h =
+    record {
+      «version_major» = h .«version_major»;
+      «version_minor» = h .«version_minor»;
+      stage = h .stage;
+      words = h .words;
+      «bitcode_major» = h .«bitcode_major»;
+      «bitcode_minor» = h .«bitcode_minor»;
+      «bitcode_offset» = h .«bitcode_offset»;
+      «bitcode_size» = h .«bitcode_size»;
+    }
+
+unfoldable pub cProgram : Program → CProgram
+cProgram p = record { verdict = cVerdict (p .verdict); header = cHeader (p .header); start = p .start; len = p .len }
+
+-- 0 unset, 1 equal, 2 different
+abbrev pub stagesNumber : Stages → ℕ
+stagesNumber NoStage = 0
+stagesNumber Equal = 1
+stagesNumber Different = 2
+
+unfoldable pub cReport : ProgramReport → CReport
+cReport p =
+    record {
+      verdict = cVerdict (p .verdict);
+      header = cHeader (p .header);
+      start = p .start;
+      len = p .len;
+      «psv0_stage» = cField (p .«psv0_stage»);
+      stages = stagesNumber (p .stages);
+    }
 
 -- a span shows the bytes l of d under the verdict v: it lies inside, and a refusal has start and length 0. Where l is empty the start is
 -- left free

@@ -3,6 +3,10 @@
 // No struct has padding: a field is as wide as its place, so that each byte of an answer is a byte of a field that the promise names.
 use assembler_layout::Assembly;
 use container::ContainerOpening;
+use dxil_layout::Program;
+use dxil_layout::ProgramHeader;
+use dxil_report_layout::ProgramReport;
+use dxil_report_layout::Stages;
 use part_table_layout::Part;
 use part_table_layout::Table;
 use psv0_layout::ElementAnswer;
@@ -23,6 +27,8 @@ ghost use Rattle.constants.specs.Edition.{fileEdition};
 ghost use Rattle.constants.specs.Name.{isKnown};
 ghost use Rattle.container.specs.Opened.{containerOpeningOf};
 ghost use Rattle.container_layout.specs.Container.{psvOf, containerJudged, containerAnswered, containerPart};
+ghost use Rattle.dxil_layout.specs.Program.{programOf};
+ghost use Rattle.dxil_report_layout.specs.Reported.{programReportOf};
 ghost use Rattle.part_table_layout.specs.Lookup.{partOf};
 ghost use Rattle.part_table_layout.specs.Table.{tableOf};
 ghost use Rattle.psv0_layout.specs.Answers.{openingOf, infoAnswerOf, resourceAnswerOf, elementAnswerOf, lengthsAnswerOf, questionOf, bytesOf, bytesBeside};
@@ -31,7 +37,7 @@ ghost use Rattle.psv0_layout.specs.Layout.{editionRead, defaultEdition};
 ghost use Rattle.psv0_layout.specs.Shown.{answered, queried};
 ghost use Rattle.psv0_writer_layout.specs.Answer as writing;
 ghost use Rattle.wire.specs.Number.{u32At};
-ghost use Rattle.qollqamir.specs.Boundary.{cVerdict, cField, cTable, cPart, cOpening, cPsvOpening, cInfo, cResource, cElement, cLengths, cSpan, cWritten, cAssembly, viewOf, sectionNumbered, sectionVerdict, sectionShown, CShows};
+ghost use Rattle.qollqamir.specs.Boundary.{cVerdict, cField, cTable, cPart, cOpening, cPsvOpening, cInfo, cResource, cElement, cLengths, cSpan, cWritten, cAssembly, stagesNumber, cHeader, cProgram, cReport, viewOf, sectionNumbered, sectionVerdict, sectionShown, CShows};
 
 // A verdict: the refusal's number, 0 where the call accepts, and its place.
 #[repr(C)]
@@ -154,6 +160,39 @@ pub struct CSpan {
 pub struct CWritten {
     pub verdict: CVerdict,
     pub len: usize,
+}
+
+// The fields of the program header and of the bitcode header.
+#[repr(C)]
+pub struct CHeader {
+    pub version_major: u32,
+    pub version_minor: u32,
+    pub stage: u32,
+    pub words: u32,
+    pub bitcode_major: u32,
+    pub bitcode_minor: u32,
+    pub bitcode_offset: u32,
+    pub bitcode_size: u32,
+}
+
+// The data of a DXIL part: the header's fields, and the bitcode as a stretch of them.
+#[repr(C)]
+pub struct CProgram {
+    pub verdict: CVerdict,
+    pub header: CHeader,
+    pub start: usize,
+    pub len: usize,
+}
+
+// The report on a container's DXIL part: the bitcode as a stretch of the container, the stage that PSV0 shows, and how the stages compare.
+#[repr(C)]
+pub struct CReport {
+    pub verdict: CVerdict,
+    pub header: CHeader,
+    pub start: usize,
+    pub len: usize,
+    pub psv0_stage: CField,
+    pub stages: usize,
 }
 
 fn c_verdict(v: Verdict) -> CVerdict
@@ -387,6 +426,62 @@ fn c_assembly(w: Assembly) -> CWritten
     }
 }
 
+fn c_header(h: ProgramHeader) -> CHeader
+    ensures { λ r. ⌜ r ≡ cHeader h ⌝ }
+{
+    CHeader {
+        version_major: h.version_major,
+        version_minor: h.version_minor,
+        stage: h.stage,
+        words: h.words,
+        bitcode_major: h.bitcode_major,
+        bitcode_minor: h.bitcode_minor,
+        bitcode_offset: h.bitcode_offset,
+        bitcode_size: h.bitcode_size,
+    }
+}
+
+fn c_program(p: Program) -> CProgram
+    ensures { λ r. ⌜ r ≡ cProgram p ⌝ }
+{
+    let v = p.verdict;
+    let h = p.header;
+    CProgram {
+        verdict: c_verdict(v),
+        header: c_header(h),
+        start: p.start,
+        len: p.len,
+    }
+}
+
+// How the stages compare, as a number: 0 unset, 1 equal, 2 different.
+fn stages_number(s: Stages) -> usize
+    ensures { λ r. ⌜ r ≡ stagesNumber s ⌝ }
+{
+    match s {
+        Stages::Unset => 0,
+        Stages::Equal => 1,
+        Stages::Different => 2,
+    }
+}
+
+fn c_report(p: ProgramReport) -> CReport
+    ensures { λ r. ⌜ r ≡ cReport p ⌝ }
+{
+    let v = p.verdict;
+    let h = p.header;
+    let stage = p.psv0_stage;
+    let s = p.stages;
+    CReport {
+        verdict: c_verdict(v),
+        header: c_header(h),
+        start: p.start,
+        len: p.len,
+        psv0_stage: c_field(stage),
+        stages: stages_number(s),
+    }
+}
+
 // A view by its kind and number: 0 the stage union, 1 an element's string, 2 an element's index array, 3 the entry name, 4 a mask. Any
 // other kind is a mask that isn't there.
 fn view_of(kind: u32, number: usize) -> View
@@ -590,6 +685,22 @@ pub extern "C" fn qollqamir_psv0_section(d: &[u8], edition: usize, section: u32)
         return c_span(psv0::view_span(d, edition, View::Mask(11)));
     }
     c_span(psv0::section_span(d, edition, section_of(section)))
+}
+
+// The data of a DXIL part alone: 40 to 42.
+#[no_mangle]
+pub extern "C" fn qollqamir_dxil_program(d: &[u8]) -> CProgram
+    ensures { λ r. ⌜ r ≡ cProgram (programOf (now (d .entry))) ⌝ }
+{
+    c_program(dxil::read(d))
+}
+
+// The report on a container's DXIL part at an edition: what opening gives, then 40 to 42.
+#[no_mangle]
+pub extern "C" fn qollqamir_program(b: &[u8], edition: usize) -> CReport
+    ensures { λ r. ⌜ r ≡ cReport (programReportOf edition (now (b .entry))) ⌝ }
+{
+    c_report(dxil_report::report(b, edition))
 }
 
 // Writes PSV0 data.

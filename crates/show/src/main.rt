@@ -1,4 +1,5 @@
 // show EDITION FILE: prints all that an opening of a container of at most 65,536 bytes and its queries show, one item a line.
+use dxil_report_layout::Stages;
 use printing::number;
 use printing::text;
 use psv0_layout::Field;
@@ -310,7 +311,54 @@ fn masks(b: &[u8], edition: usize) {
     }
 }
 
-// ---- the program
+// ---- the report on the DXIL part
+
+fn version(name: &[u8], major: u32, minor: u32) {
+    text(name);
+    text(b" version ");
+    number(major as usize);
+    text(b" ");
+    number(minor as usize);
+}
+
+// A number further on in a line.
+fn count_of(name: &[u8], n: u32) {
+    text(name);
+    number(n as usize);
+}
+
+fn stages(s: Stages) {
+    match s {
+        Stages::Equal => text(b"stages equal\n"),
+        Stages::Different => text(b"stages different\n"),
+        Stages::Unset => text(b"stages unset\n"),
+    }
+}
+
+fn program(b: &[u8], edition: usize) {
+    let r = dxil_report::report(b, edition);
+    let v = r.verdict;
+    match v {
+        Verdict::Refused(n, place) => {
+            text(b"program ");
+            printing::refusal(n, place);
+        }
+        Verdict::Accepted => {
+            let h = r.header;
+            version(b"program", h.version_major, h.version_minor);
+            count_of(b" stage ", h.stage);
+            count_of(b" words ", h.words);
+            version(b"\nbitcode", h.bitcode_major, h.bitcode_minor);
+            count_of(b" offset ", h.bitcode_offset);
+            count_of(b" size ", h.bitcode_size);
+            text(b"\n");
+            let s = r.stages;
+            stages(s);
+        }
+    }
+}
+
+// ---- all of it
 
 fn dump(b: &[u8], edition: usize) {
     parts(b);
@@ -326,6 +374,7 @@ fn dump(b: &[u8], edition: usize) {
     let e = l.elements;
     elements(b, edition, e);
     masks(b, edition);
+    program(b, edition);
 }
 
 fn show(b: &[u8], edition: usize) {

@@ -1,0 +1,120 @@
+-- Reports on one part: what two editions' reports have in common, what a widening keeps, and the steps of the code.
+-- They hold of whatever judges the part's data, so that each report states them in a few lines.
+-- Assumes nothing.
+use Prim.Native.Nat.{ℕ, _+_, _-_, _≤_}
+use mathlib.Core.Path.{_≡_, refl, sym, _∙_}
+use mathlib.Core.List.{List}
+use native.Mathlib.Omega.{arith}
+use lib.ListN.{take, drop}
+use Rattle.constants.specs.Edition.{sizeOf}
+use Rattle.wire.specs.Number.{u32At}
+use Rattle.wire.specs.Verdict.{_then_, check}
+use Rattle.wire.specs.declared.Verdict.{Verdict}
+use Rattle.wire.specs.declared.Verdict.the-variants.{Accepted, Refused}
+use Rattle.wire.proofs.Verdicts.{then-accepted, stop-then}
+use Rattle.part_table_layout.specs.Lookup.{find, partAt, partIf, dataIf}
+use Rattle.part_table_layout.specs.declared.Found.{Found}
+use Rattle.part_table_layout.specs.declared.Found.the-variants.{At, Nothing}
+use Rattle.part_table_layout.specs.declared.Part.{Part}
+use Rattle.part_table_layout.proofs.Lookups.{find-told}
+use Rattle.container_layout.specs.Container.{psv0, isThere, startFound, dataFound, psvOf, containerJudged, containerPart, partDataOf}
+use Rattle.container_layout.specs.Report.{dataNamed, reported}
+use Rattle.container_layout.specs.Widened.{WiderContainer}
+use Rattle.container_layout.proofs.Containers.{find-same}
+use Rattle.container_layout.proofs.Demand3.{editions-agree, widening-kept}
+use Rattle.container_layout.proofs.Parts.{opens, shown-part, part-data}
+
+module _ (judge : List ℕ → Verdict) (x : ℕ) where
+  -- a report on bytes that open
+  pub reported-open : (k : ℕ) (b : List ℕ) → containerJudged k b ≡ Accepted
+      → reported judge x k b ≡ (check (isThere (find b x)) 26 0 then judge (dataNamed b x))
+  unfolding reported _then_
+  reported-open k b h = rw h
+
+  pub reported-opens : (k : ℕ) (b : List ℕ) → reported judge x k b ≡ Accepted → containerJudged k b ≡ Accepted
+  unfolding reported
+  reported-opens k b h = then-accepted _ _ h .0
+
+  pub reported-refused : (k : ℕ) (b : List ℕ) {n p : ℕ} → containerJudged k b ≡ Refused n p → reported judge x k b ≡ Refused n p
+  unfolding reported
+  reported-refused k b h = sym (stop-then _ _ _ _ h)
+
+  -- ---- two editions, i the older and j the newer. Where the older refuses to open the bytes, the newer's report gives that refusal; where
+  -- the newer opens them, both reports give the same; and what the newer report accepts, the older accepts. (An older report's own refusal
+  -- need not be the newer's: the newer may refuse to open.)
+  pub record ReportsAgree (i j : ℕ) (b : List ℕ) : Type 0 where
+    pub refuses : (n p : ℕ) → containerJudged i b ≡ Refused n p → reported judge x j b ≡ Refused n p
+    pub same : containerJudged j b ≡ Accepted → reported judge x j b ≡ reported judge x i b
+    pub accepts : reported judge x j b ≡ Accepted → reported judge x i b ≡ Accepted
+
+  pub reports-agree : (i j : ℕ) (b : List ℕ) → i ≤ j → j ≤ 3 → ReportsAgree i j b
+  reports-agree i j b h l =
+      let e = editions-agree i j b h l in
+      let s : containerJudged j b ≡ Accepted → reported judge x j b ≡ reported judge x i b =
+      λ o. reported-open j b o ∙ sym (reported-open i b (e .opens o)) in
+      record {
+        refuses = λ n p r. reported-refused j b (e .refuses n p r);
+        same = s;
+        accepts = λ a. sym (s (reported-opens j b a)) ∙ a;
+      }
+
+-- ---- a widening keeps every part but PSV0, and so the report on it
+module _ (k : ℕ) (b b′ : List ℕ) (w : WiderContainer k b b′) (x : ℕ) (other : x ≡ psv0 → ⊥) where
+  pub data-kept : dataNamed b′ x ≡ dataNamed b x
+  unfolding dataNamed
+  data-kept = rw (find-same k b b′ w x) (go (find b x) refl)
+    where
+      go : (f : Found) → find b x ≡ f → dataFound b′ f ≡ dataFound b f
+      go Nothing e = refl
+      go (At i) e = let n = find-told b x i e in w .others i (n .listed) (λ q. other (sym (n .named) ∙ q))
+
+  pub report-kept : (judge : List ℕ → Verdict) → containerJudged k b ≡ Accepted → sizeOf k ≤ u32At (psvOf b) 0
+      → reported judge x k b′ ≡ reported judge x k b
+  report-kept judge o long =
+      reported-open judge x k b′ (widening-kept k b b′ o long w .opens)
+      ∙ rw (find-same k b b′ w x, data-kept) (sym (reported-open judge x k b o))
+
+-- ---- the steps of the code: r is the part that was asked for
+part-verdict : (v : Verdict) (b : List ℕ) (x : ℕ) → partIf v b x .verdict ≡ (v then check (isThere (find b x)) 26 0)
+unfolding _then_ check
+part-verdict (Refused n p) b x = refl
+part-verdict Accepted b x = go (find b x)
+  where
+    go : (f : Found) → partAt b f .verdict ≡ check (isThere f) 26 0
+    go (At i) = refl
+    go Nothing = refl
+
+regroup : (a c v : Verdict) → (a then c then v) ≡ ((a then c) then v)
+unfolding _then_
+regroup Accepted c v = refl
+regroup (Refused n p) c v = refl
+
+module _ (judge : List ℕ → Verdict) (k : ℕ) (b : List ℕ) (x : ℕ) {r : Part} (hr : r ≡ containerPart k b x) where
+  reported-is : reported judge x k b ≡ (r .verdict then judge (dataNamed b x))
+  unfolding reported containerPart
+  reported-is = rw (hr, part-verdict (containerJudged k b) b x) (regroup (containerJudged k b) _ _)
+
+  pub no-report : {n p : ℕ} → r .verdict ≡ Refused n p → Refused n p ≡ reported judge x k b
+  no-report h = stop-then (r .verdict) (judge (dataNamed b x)) _ _ h ∙ sym reported-is
+
+  module _ (h : r .verdict ≡ Accepted) where
+    pub data-reported : judge (dataNamed b x) ≡ reported judge x k b
+    unfolding _then_
+    data-reported = sym (reported-is ∙ rw h)
+
+    pub starts-at : r .offset + 8 ≡ startFound b (find b x)
+    starts-at = rw (shown-part k b x hr h) (go (find b x) (rw (shown-part k b x hr h) at h))
+      where
+        go : (f : Found) → partAt b f .verdict ≡ Accepted → partAt b f .offset + 8 ≡ startFound b f
+        go (At i) e = refl
+        go Nothing e = absurd (let z : _≡_ {A = ℕ} 0 1 = cc in omega arith)
+
+    pub data-there : take (r .offset + 8 + r .size - (r .offset + 8)) (drop (r .offset + 8) b) ≡ dataNamed b x
+    unfolding partDataOf dataNamed containerPart
+    data-there =
+        let o = opens k b x hr h in
+        part-data k b x hr h ∙ rw o (go (find b x) (rw (shown-part k b x hr h) at h))
+      where
+        go : (f : Found) → partAt b f .verdict ≡ Accepted → dataIf (partAt b f .verdict) b (partAt b f .number) ≡ dataFound b f
+        go (At i) e = refl
+        go Nothing e = absurd (let z : _≡_ {A = ℕ} 0 1 = cc in omega arith)
