@@ -278,6 +278,8 @@ static void real_shaders(const std::filesystem::path &folder) {
              {repeat([&] { return qollqamir_table(b.data(), b.size()); }), repeat([&] { return reference_table(b.data(), b.size()); }),
               nullptr}},
             {"runtime info", {repeat([&] { return qollqamir_runtime_info(b.data(), b.size(), 3); }), reference_at(b, 3), llvm_create(b)}},
+            {"program report, edition 3",
+             {repeat([&] { return qollqamir_program(b.data(), b.size(), 3); }), reference_at(b, 3), llvm_create(b)}},
             {"string of element 0",
              {string_of(b, 0), repeat([&] { return reference_string(b.data(), b.size(), 3, 0); }), llvm_create(b)}},
             {"write PSV0", {repeat(write), repeat([&] { return reference_write_psv0(e, sections, lengths, out.data(), out.size()); }), nullptr}},

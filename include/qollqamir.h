@@ -1,7 +1,7 @@
 /* Qollqamir: a reader and writer of DirectX shader containers.
 
    Every call takes any bytes and answers. Its answer begins with a verdict: number 0 where the call accepts, else a refusal number of
-   document 01 with its place. Beside a refusal every number is 0, no field is set, and a span has start and length 0.
+   documents 01 and 02 with its place. Beside a refusal every number is 0, no field is set, and a span has start and length 0.
    A pointer is followed by its length and may be null where that is 0, "sizes" and "out" too; a name has no length and points to four
    bytes. Only "out" is written; it must not overlap the others, and nothing else may change the bytes or "out" during a call.
    Calls share nothing and may run on any number of threads at once, on the same bytes too.
@@ -130,6 +130,38 @@ typedef struct {
     size_t len;
 } qollqamir_written;
 
+/* The fields of the program header of a DXIL part and of the bitcode header in it. words is the size in 4-byte units; the bitcode's offset
+   counts from the bitcode header's start, byte 8 of the data. Both are shown as they stand. */
+typedef struct {
+    uint32_t version_major;
+    uint32_t version_minor;
+    uint32_t stage;
+    uint32_t words;
+    uint32_t bitcode_major;
+    uint32_t bitcode_minor;
+    uint32_t bitcode_offset;
+    uint32_t bitcode_size;
+} qollqamir_program_header;
+
+/* The data of a DXIL part: the header's fields, and the bitcode as a stretch of the data. */
+typedef struct {
+    qollqamir_verdict verdict;
+    qollqamir_program_header header;
+    size_t start;
+    size_t len;
+} qollqamir_program_data;
+
+/* The report on a container's DXIL part: the header's fields, the bitcode as a stretch of the container, the stage that PSV0 shows, and
+   how the header's stage compares with it (a number of the enum below). */
+typedef struct {
+    qollqamir_verdict verdict;
+    qollqamir_program_header header;
+    size_t start;
+    size_t len;
+    qollqamir_field psv0_stage;
+    size_t stages;
+} qollqamir_program_report;
+
 /* Every byte of an answer is a byte of a field, so an answer can be written out, compared or hashed as it stands. A struct that is added
    gets its line here too. */
 #ifdef __cplusplus
@@ -155,6 +187,14 @@ QOLLQAMIR_NO_PADDING(qollqamir_list_lengths, sizeof(qollqamir_verdict) + 4 * siz
 QOLLQAMIR_NO_PADDING(qollqamir_span, sizeof(qollqamir_verdict) + QOLLQAMIR_SIZE(qollqamir_span, start) +
                                          QOLLQAMIR_SIZE(qollqamir_span, len));
 QOLLQAMIR_NO_PADDING(qollqamir_written, sizeof(qollqamir_verdict) + QOLLQAMIR_SIZE(qollqamir_written, len));
+QOLLQAMIR_NO_PADDING(qollqamir_program_header, 8 * sizeof(uint32_t));
+QOLLQAMIR_NO_PADDING(qollqamir_program_data, sizeof(qollqamir_verdict) + sizeof(qollqamir_program_header) +
+                                                 QOLLQAMIR_SIZE(qollqamir_program_data, start) +
+                                                 QOLLQAMIR_SIZE(qollqamir_program_data, len));
+QOLLQAMIR_NO_PADDING(qollqamir_program_report, sizeof(qollqamir_verdict) + sizeof(qollqamir_program_header) +
+                                                   QOLLQAMIR_SIZE(qollqamir_program_report, start) +
+                                                   QOLLQAMIR_SIZE(qollqamir_program_report, len) + sizeof(qollqamir_field) +
+                                                   QOLLQAMIR_SIZE(qollqamir_program_report, stages));
 #undef QOLLQAMIR_SIZE
 #undef QOLLQAMIR_NO_PADDING
 
@@ -175,6 +215,13 @@ enum {
     QOLLQAMIR_INDEX_TABLE = 3,
     QOLLQAMIR_ELEMENT_RECORDS = 4,
     QOLLQAMIR_MASKS = 5
+};
+
+/* How the program header's stage compares with PSV0's: unset exactly where PSV0's is, and beside a refusal. */
+enum {
+    QOLLQAMIR_STAGES_UNSET = 0,
+    QOLLQAMIR_STAGES_EQUAL = 1,
+    QOLLQAMIR_STAGES_DIFFERENT = 2
 };
 
 /* The part table alone: 1 to 9. */
@@ -212,6 +259,13 @@ qollqamir_element_record qollqamir_psv0_element(const uint8_t *data, size_t len,
 qollqamir_list_lengths qollqamir_psv0_lengths(const uint8_t *data, size_t len, size_t edition);
 qollqamir_span qollqamir_psv0_view(const uint8_t *data, size_t len, size_t edition, uint32_t kind, size_t number);
 qollqamir_span qollqamir_psv0_section(const uint8_t *data, size_t len, size_t edition, uint32_t section);
+
+/* The program header and the bitcode, of the data of a DXIL part alone: 40 (under 24 bytes), 41 (wrong mark), 42 (the bitcode ends past the
+   data). */
+qollqamir_program_data qollqamir_dxil_program(const uint8_t *data, size_t len);
+
+/* The report on a container's DXIL part at an edition: what qollqamir_open gives, then 40 to 42. */
+qollqamir_program_report qollqamir_program(const uint8_t *bytes, size_t len, size_t edition);
 
 /* Writes PSV0 data in plain form: 25; 27; 2; 15 to 24 as reader 3 would answer; 28. On a refusal out keeps every byte; bytes past the
    result keep their contents. */

@@ -1,5 +1,5 @@
-/* Calls the library through its C header: the boxes M and C of document 01, the last field of every struct, both writers, every byte of
-   the answers of every call, null pointers. */
+/* Calls the library through its C header: the boxes M and C of document 01, the last field of every struct, both writers, the program
+   header of document 02, every byte of the answers of every call, null pointers. */
 #include "qollqamir.h"
 
 #include <stdio.h>
@@ -40,25 +40,28 @@ static size_t put(uint8_t *at, const void *bytes, size_t len) {
     return len;
 }
 
-/* A container of a DXIL part with four bytes and a PSV0 part. */
-static size_t shader(uint8_t *out, const uint8_t *psv0, size_t len) {
+/* A container of a DXIL part, whose data start at byte 48, and a PSV0 part. */
+static size_t shader_of(uint8_t *out, const void *dxil, size_t dxil_len, const uint8_t *psv0, size_t len) {
     size_t n = 0;
     n += put(out + n, "DXBC", 4);
     memset(out + n, 0xd1, 16);
     n += 16;
     n += put32(out + n, 1);
-    n += put32(out + n, (uint32_t)(60 + len));
+    n += put32(out + n, (uint32_t)(56 + dxil_len + len));
     n += put32(out + n, 2);
     n += put32(out + n, 40);
-    n += put32(out + n, 52);
+    n += put32(out + n, (uint32_t)(48 + dxil_len));
     n += put(out + n, "DXIL", 4);
-    n += put32(out + n, 4);
-    n += put(out + n, "code", 4);
+    n += put32(out + n, (uint32_t)dxil_len);
+    n += put(out + n, dxil, dxil_len);
     n += put(out + n, "PSV0", 4);
     n += put32(out + n, (uint32_t)len);
     n += put(out + n, psv0, len);
     return n;
 }
+
+/* The same with four bytes in the DXIL part. */
+static size_t shader(uint8_t *out, const uint8_t *psv0, size_t len) { return shader_of(out, "code", 4, psv0, len); }
 
 /* PSV0 data of box M with a runtime record of the stated size and of s bytes. */
 static size_t box_m(uint8_t *out, uint32_t stated, size_t s) {
@@ -82,6 +85,20 @@ static size_t box_c(uint8_t *out, size_t s, uint32_t offset) {
     n += put32(out + n, 8);
     n += put(out + n, "\0main\0\0\0", 8);
     return n + put32(out + n, 0);
+}
+
+/* DXIL data of 32 bytes: program version 6.10, bitcode version 252.11, the bytes after the headers numbered from 24 on. */
+static void dxil(uint8_t *out, uint32_t stage, uint32_t offset, uint32_t size) {
+    put(out, "\x6a\xe1", 2);
+    out[2] = (uint8_t)stage;
+    out[3] = (uint8_t)(stage >> 8);
+    put32(out + 4, 0x12345678);
+    put(out + 8, "DXIL\x0b\xfc\xe2\xe3", 8);
+    put32(out + 16, offset);
+    put32(out + 20, size);
+    for (uint8_t i = 24; i < 32; i++) {
+        out[i] = i;
+    }
 }
 
 static bool shows(const uint8_t *bytes, qollqamir_span span, const void *expected, size_t len) {
@@ -450,15 +467,126 @@ static void test_writers(void) {
 #undef ASSEMBLE
 }
 
+/* ---- the program header */
+
+/* Both calls on DXIL data: alone, and in the boxes M and C at every edition. The stage of C is 5. */
+static void program(const uint8_t *data, size_t len, size_t number) {
+    qollqamir_program_data alone = qollqamir_dxil_program(data, len);
+    if (number == 0) {
+        ACCEPTED(alone);
+        qollqamir_program_header h = alone.header;
+        CHECK(h.version_major == 6 && h.version_minor == 10 && h.words == 0x12345678);
+        CHECK(h.bitcode_major == 252 && h.bitcode_minor == 11);
+        CHECK(h.stage == (uint32_t)(data[2] + 256 * data[3]));
+        CHECK(h.bitcode_offset == get32(data + 16) && h.bitcode_size == get32(data + 20));
+        CHECK(alone.start == 8 + (size_t)h.bitcode_offset && alone.len == h.bitcode_size && alone.start + alone.len <= len);
+    } else {
+        qollqamir_program_data nothing = {.verdict = {number, 0}};
+        CHECK(memcmp(&alone, &nothing, sizeof alone) == 0);
+    }
+
+    for (int box = 0; box < 2; box++) {
+        uint8_t psv0[128], bytes[192];
+        size_t psv0_len = box == 0 ? box_m(psv0, 24, 24) : box_c(psv0, 52, 1);
+        size_t n = shader_of(bytes, data, len, psv0, psv0_len);
+        for (size_t edition = 0; edition <= 3; edition++) {
+            ACCEPTED(qollqamir_open(bytes, n, edition));
+            qollqamir_program_report report = qollqamir_program(bytes, n, edition);
+            if (number != 0) {
+                qollqamir_program_report nothing = {.verdict = {number, 0}};
+                CHECK(memcmp(&report, &nothing, sizeof report) == 0);
+                continue;
+            }
+            ACCEPTED(report);
+            CHECK(memcmp(&report.header, &alone.header, sizeof report.header) == 0);
+            CHECK(report.start == 48 + alone.start && report.len == alone.len);
+            CHECK(memcmp(bytes + report.start, data + alone.start, alone.len) == 0);
+            if (box == 0 || edition == 0) {
+                UNSET(report.psv0_stage);
+                CHECK(report.stages == QOLLQAMIR_STAGES_UNSET);
+            } else {
+                SET(report.psv0_stage, 5);
+                CHECK(report.stages == (alone.header.stage == 5 ? QOLLQAMIR_STAGES_EQUAL : QOLLQAMIR_STAGES_DIFFERENT));
+            }
+        }
+        REFUSED(qollqamir_program(bytes, n, 4), 25, 0);
+        REFUSED(qollqamir_program(bytes, n - 1, 3), 5, 0);
+    }
+}
+
+static void test_program(void) {
+    uint8_t data[32];
+    static const uint32_t stages[] = {5, 6, 0, 255, 261, 0x0500, 0xffff};
+    for (size_t i = 0; i < sizeof stages / sizeof *stages; i++) {
+        dxil(data, stages[i], 18, 3);
+        program(data, 32, 0);
+    }
+    /* The same once more in plain numbers. */
+    uint8_t psv0[128], c[192];
+    dxil(data, 5, 18, 3);
+    size_t len = shader_of(c, data, 32, psv0, box_c(psv0, 52, 1));
+    qollqamir_program_report report = qollqamir_program(c, len, 3);
+    ACCEPTED(report);
+    CHECK(report.header.stage == 5 && report.header.bitcode_offset == 18 && report.header.bitcode_size == 3);
+    CHECK(report.start == 74 && report.len == 3 && memcmp(c + 74, "\x1a\x1b\x1c", 3) == 0);
+    SET(report.psv0_stage, 5);
+    CHECK(report.stages == QOLLQAMIR_STAGES_EQUAL);
+    dxil(data, 261, 18, 3);
+    len = shader_of(c, data, 32, psv0, box_c(psv0, 52, 1));
+    report = qollqamir_program(c, len, 3);
+    CHECK(report.header.stage == 261 && report.stages == QOLLQAMIR_STAGES_DIFFERENT);
+
+    /* Under 24 bytes. */
+    program(name("code"), 4, 40);
+    dxil(data, 5, 16, 0);
+    program(data, 23, 40);
+    program(data, 24, 0);
+    /* The mark is looked at before the bitcode's end. */
+    for (size_t i = 8; i < 12; i++) {
+        for (unsigned bit = 0; bit < 8; bit++) {
+            dxil(data, 5, 16, bit % 2 == 0 ? 8 : 9);
+            data[i] ^= (uint8_t)(1 << bit);
+            program(data, 32, 41);
+            program(data, 23, 40);
+        }
+    }
+    /* The bitcode ends with the data or one byte past them, by either number; an offset below 16 is not judged. */
+    for (uint32_t offset = 0; offset <= 24; offset++) {
+        dxil(data, 5, offset, 24 - offset);
+        program(data, 32, 0);
+        dxil(data, 5, offset, 25 - offset);
+        program(data, 32, 42);
+    }
+    dxil(data, 5, 25, 0);
+    program(data, 32, 42);
+    /* At or past 2^32, where 32 bits would take the sum back inside the data. */
+    static const uint32_t past[][2] = {
+        {0xffffffff, 0}, {0xffffffff, 1}, {0xffffffff, 25}, {0xffffffff, 0xffffffff}, {0xfffffff8, 0}, {0xfffffff8, 32},
+        {0, 0xffffffff}, {16, 0xffffffff}, {25, 0xffffffff}, {16, 0xffffffe8}, {0x80000000, 0x80000000}, {0x80000000, 0x7ffffff8},
+    };
+    for (size_t i = 0; i < sizeof past / sizeof *past; i++) {
+        dxil(data, 5, past[i][0], past[i][1]);
+        program(data, 32, 42);
+    }
+    /* The refusals of opening come first: with a wrong entry name only reader 3 doesn't open the container. */
+    len = shader_of(c, data, 32, psv0, box_c(psv0, 52, 8));
+    REFUSED(qollqamir_program(c, len, 2), 42, 0);
+    REFUSED(qollqamir_program(c, len, 3), 24, 0);
+}
+
 /* ---- every byte of an answer */
 
-/* The calls. Those up to OPEN_DEFAULT take no edition; those on PSV0 data alone stand in the order of those on containers. */
+/* The calls. Those up to OPEN_DEFAULT take no edition, nor does DXIL_PROGRAM; those on PSV0 data alone stand in the order of those on
+   containers. */
 enum call {
-    TABLE, TABLE_PART, KNOWN, OPEN_DEFAULT, PART,
+    TABLE, TABLE_PART, KNOWN, OPEN_DEFAULT, PART, PROGRAM,
     OPEN, INFO, RESOURCE, ELEMENT, LENGTHS, VIEW, SECTION,
     PSV0_OPEN, PSV0_INFO, PSV0_RESOURCE, PSV0_ELEMENT, PSV0_LENGTHS, PSV0_VIEW, PSV0_SECTION,
-    WRITE_PSV0, ASSEMBLE, CALLS
+    DXIL_PROGRAM, WRITE_PSV0, ASSEMBLE, CALLS
 };
+
+/* The greatest refusal number of any call is below this. */
+enum { NUMBERS = 43 };
 
 /* A call and what it is handed. A writer's byte arguments lie end to end in bytes, and pieces has their lengths. */
 struct question {
@@ -505,6 +633,7 @@ __attribute__((noinline)) static size_t answer(const struct question *q, uint8_t
     case KNOWN: ANSWER(bool, qollqamir_known(four))
     case OPEN_DEFAULT: ANSWER(qollqamir_opening, qollqamir_open_default(b, n))
     case PART: ANSWER(qollqamir_found, qollqamir_part(b, n, e, four))
+    case PROGRAM: ANSWER(qollqamir_program_report, qollqamir_program(b, n, e))
     case OPEN: ANSWER(qollqamir_opening, qollqamir_open(b, n, e))
     case INFO: ANSWER(qollqamir_info, qollqamir_runtime_info(b, n, e))
     case RESOURCE: ANSWER(qollqamir_resource_record, qollqamir_resource(b, n, e, i))
@@ -519,6 +648,7 @@ __attribute__((noinline)) static size_t answer(const struct question *q, uint8_t
     case PSV0_LENGTHS: ANSWER(qollqamir_list_lengths, qollqamir_psv0_lengths(b, n, e))
     case PSV0_VIEW: ANSWER(qollqamir_span, qollqamir_psv0_view(b, n, e, k, i))
     case PSV0_SECTION: ANSWER(qollqamir_span, qollqamir_psv0_section(b, n, e, k))
+    case DXIL_PROGRAM: ANSWER(qollqamir_program_data, qollqamir_dxil_program(b, n))
     case WRITE_PSV0:
         ANSWER(qollqamir_written, qollqamir_write_psv0(e, PIECE(0), PIECE(1), PIECE(2), PIECE(3), PIECE(4), PIECE(5), q->out, q->room))
     case ASSEMBLE: ANSWER(qollqamir_written, qollqamir_assemble(PIECE(0), q->sizes, 2, PIECE(1), PIECE(2), q->out, q->room))
@@ -561,7 +691,7 @@ static struct refusal {
     uint8_t answer[sizeof(qollqamir_parts)], bytes[512];
     size_t answer_len, len;
     bool paired;
-} refusals[CALLS][29][4];
+} refusals[CALLS][NUMBERS][4];
 
 /* Asks twice and compares. The second time the stack and the answer's place hold another pattern, and the bytes, the output and the stack
    are at other addresses: what stood in memory before would differ, and an address too. A refused answer is also compared with the first
@@ -598,7 +728,7 @@ static qollqamir_verdict ask(const struct question *question) {
         return verdict;
     }
     refused[q->call]++;
-    CHECK(verdict.number <= 28 && verdict.place < 4);
+    CHECK(verdict.number < NUMBERS && verdict.place < 4);
     struct refusal *first = &refusals[q->call][verdict.number][verdict.place];
     if (first->answer_len == 0) {
         first->answer_len = put(first->answer, answers[0], len);
@@ -621,6 +751,7 @@ static const struct question queries[] = {
     {.call = OPEN_DEFAULT},
     {.call = PART, .name = "PSV0"},
     {.call = PART, .name = "VERS"},
+    {.call = PROGRAM},
     {.call = OPEN},
     {.call = INFO},
     {.call = RESOURCE, .number = 0},
@@ -666,6 +797,8 @@ static void ask_reader(struct question file) {
         }
     }
 }
+
+static void ask_dxil(struct question q) { ask(&q); }
 
 /* A writer with room for all and with a byte too little, at every edition where it takes one. */
 static void ask_writer(struct question q) {
@@ -745,10 +878,15 @@ static void test_every_byte(void) {
             around(ask_writer, q, bytes);
         }
     }
+    uint8_t data[32], psv0[128], bytes[192];
+    dxil(data, 5, 16, 8);
+    size_t n = shader_of(bytes, data, sizeof data, psv0, box_c(psv0, 52, 1));
+    around(ask_dxil, (struct question){.call = DXIL_PROGRAM, .len = sizeof data}, data);
+    around(ask_reader, (struct question){.call = OPEN, .len = n}, bytes);
     for (int call = 0; call < CALLS; call++) {
         CHECK(accepted[call] > 0 && refused[call] > 0);
     }
-    CHECK(triples >= 400);
+    CHECK(triples >= 430);
     printf("c answers: %zu calls made twice; %zu refused answers equal to that of another file, of %zu calls, numbers and places\n", asked,
            paired, triples);
 }
@@ -770,6 +908,9 @@ static void test_null(void) {
             }
         }
     }
+
+    qollqamir_verdict verdict = ask(&(struct question){.call = DXIL_PROGRAM});
+    CHECK(verdict.number == 40 && verdict.place == 0);
 
     uint8_t runtime[52] = {0}, out[64];
     const uint8_t *digest = name("0123456789abcdef");
@@ -806,6 +947,7 @@ int main(void) {
     test_box_c();
     test_last_entries();
     test_writers();
+    test_program();
     test_every_byte();
     test_null();
     printf("c boundary: %d checks passed\n", checks);

@@ -1,10 +1,12 @@
 //! Every call of the library against the independent reader, answer by answer.
 
+use std::array::from_fn;
 use std::collections::BTreeSet;
 
 use qollqamir::raw;
-use reference::{Opening, Refusal};
+use reference::{Opening, Program, ProgramReport, Refusal};
 
+use crate::make::get4;
 use crate::random::Random;
 
 /// A difference, and the bytes it was seen on.
@@ -39,22 +41,58 @@ pub enum Call {
     Query,
     Write,
     Assemble,
+    Program,
+    Dxil,
 }
 
-pub const CALLS: [(&str, &[u8]); 6] = [
+/// The calls, and the numbers that each can give.
+pub const CALLS: [(&str, &[u8]); 8] = [
     ("table", &[1, 2, 3, 4, 5, 6, 7, 8, 9]),
     ("open", &[1, 2, 3, 4, 5, 6, 7, 8, 9, 10, 11, 12, 13, 14, 15, 16, 17, 18, 19, 20, 21, 22, 23, 24, 25]),
     ("psv0", &[2, 12, 13, 14, 15, 16, 17, 18, 19, 20, 21, 22, 23, 24, 25]),
     ("query", &[26]),
     ("write", &[2, 15, 16, 17, 22, 23, 24, 25, 27, 28]),
     ("assemble", &[2, 6, 9, 27, 28]),
+    ("program", &[1, 2, 3, 4, 5, 6, 7, 8, 9, 10, 11, 12, 13, 14, 15, 16, 17, 18, 19, 20, 21, 22, 23, 24, 25, 40, 41, 42]),
+    ("dxil", &[40, 41, 42]),
 ];
 
-/// How often each call gave each verdict (0: it accepted), and at which places.
-#[derive(Default)]
+/// The greatest number of documents 01 and 02 is below this.
+pub const NUMBERS: usize = 61;
+
+/// What a run must have come by that no number tells: how the stages compared, and where the bitcode of DXIL data alone ended.
+#[derive(Clone, Copy)]
+enum Seen {
+    Unset,
+    Equal,
+    Different,
+    LowByte,
+    AtEnd,
+    OnePast,
+    Wraps,
+}
+
+pub const SEEN: [&str; 7] = [
+    "stages unset",
+    "stages equal",
+    "stages different",
+    "stages equal in the low byte alone",
+    "bitcode to the end of the data",
+    "bitcode to one byte past the data",
+    "bitcode that 32 bits would take back inside the data",
+];
+
+/// How often each call gave each verdict (0: it accepted), and at which places; how often each of `SEEN` came.
 pub struct Hits {
-    pub counts: [[u64; 29]; 6],
-    pub places: [[BTreeSet<usize>; 29]; 6],
+    pub counts: [[u64; NUMBERS]; CALLS.len()],
+    pub places: [[BTreeSet<usize>; NUMBERS]; CALLS.len()],
+    pub seen: [u64; SEEN.len()],
+}
+
+impl Default for Hits {
+    fn default() -> Hits {
+        Hits { counts: [[0; NUMBERS]; CALLS.len()], places: from_fn(|_| from_fn(|_| BTreeSet::new())), seen: [0; SEEN.len()] }
+    }
 }
 
 impl Hits {
@@ -64,6 +102,10 @@ impl Hits {
         if [8, 9, 22, 23].contains(&number) {
             self.places[call as usize][number].insert(verdict.place);
         }
+    }
+
+    fn saw(&mut self, what: Seen) {
+        self.seen[what as usize] += 1;
     }
 }
 
@@ -174,6 +216,62 @@ fn element_of(answer: Result<reference::Element, Refusal>) -> raw::Element {
         dynamic_mask: of(|e| e.dynamic_mask),
         stream: of(|e| e.stream),
         reserved: of(|e| e.reserved),
+    }
+}
+
+const NO_HEADER: raw::ProgramHeader = raw::ProgramHeader {
+    version_major: 0,
+    version_minor: 0,
+    stage: 0,
+    words: 0,
+    bitcode_major: 0,
+    bitcode_minor: 0,
+    bitcode_offset: 0,
+    bitcode_size: 0,
+};
+
+fn header_of(program: &Program) -> raw::ProgramHeader {
+    raw::ProgramHeader {
+        version_major: program.major,
+        version_minor: program.minor,
+        stage: program.stage,
+        words: program.words,
+        bitcode_major: program.bitcode_major,
+        bitcode_minor: program.bitcode_minor,
+        bitcode_offset: program.bitcode_offset,
+        bitcode_size: program.bitcode_size,
+    }
+}
+
+fn program_of(answer: &Result<Program, Refusal>) -> raw::ProgramData {
+    let verdict = verdict_of(answer);
+    match answer {
+        Ok(p) => raw::ProgramData { verdict, header: header_of(p), start: p.bitcode_at, len: p.bitcode.len() },
+        Err(_) => raw::ProgramData { verdict, header: NO_HEADER, start: 0, len: 0 },
+    }
+}
+
+/// The stages as the plain and as the safe call show them.
+fn stages_of(stages: reference::Stages) -> (usize, qollqamir::Stages) {
+    match stages {
+        reference::Stages::Unset => (0, qollqamir::Stages::Unset),
+        reference::Stages::Equal => (1, qollqamir::Stages::Equal),
+        reference::Stages::Different => (2, qollqamir::Stages::Different),
+    }
+}
+
+fn report_of(answer: &Result<ProgramReport, Refusal>) -> raw::ProgramReport {
+    let verdict = verdict_of(answer);
+    match answer {
+        Ok(r) => raw::ProgramReport {
+            verdict,
+            header: header_of(&r.program),
+            start: r.bitcode_at,
+            len: r.program.bitcode.len(),
+            psv0_stage: field(r.psv0_stage),
+            stages: stages_of(r.stages).0,
+        },
+        Err(_) => raw::ProgramReport { verdict, header: NO_HEADER, start: 0, len: 0, psv0_stage: field(None), stages: 0 },
     }
 }
 
@@ -291,6 +389,7 @@ pub fn reading(random: &mut Random, reader: &Reader, bytes: &[u8], edition: usiz
             hits.note(Call::Query, got.verdict);
             same!(bytes, got, found_of(bytes, answer), "part {edition} {name:?}");
         }
+        program(bytes, edition, hits)?;
     }
     same!(bytes, (reader.info)(bytes, edition), info_of(&expected), "{name} info {edition}");
     same!(bytes, (reader.lengths)(bytes, edition), lengths_of(&expected), "{name} lengths {edition}");
@@ -345,6 +444,49 @@ pub fn reading(random: &mut Random, reader: &Reader, bytes: &[u8], edition: usiz
     Ok(())
 }
 
+/// The report on a container's program, at one edition.
+fn program(bytes: &[u8], edition: usize, hits: &mut Hits) -> Check {
+    let expected = reference::program_report(bytes, edition);
+    let got = raw::program(bytes, edition);
+    hits.note(Call::Program, got.verdict);
+    same!(bytes, got, report_of(&expected), "program {edition}");
+    if let Ok(report) = expected {
+        hits.saw(match report.stages {
+            reference::Stages::Unset => Seen::Unset,
+            reference::Stages::Equal => Seen::Equal,
+            reference::Stages::Different => Seen::Different,
+        });
+        let stage = report.program.stage;
+        if report.psv0_stage.is_some_and(|other| other != stage && other == stage % 256) {
+            hits.saw(Seen::LowByte);
+        }
+    }
+    Ok(())
+}
+
+/// DXIL data alone, by the plain and the safe call.
+pub fn dxil(data: &[u8], hits: &mut Hits) -> Check {
+    let expected = reference::program(data);
+    let got = raw::dxil_program(data);
+    hits.note(Call::Dxil, got.verdict);
+    same!(data, got, program_of(&expected), "dxil");
+    let safe = qollqamir::dxil_program(data).map(|p| (p.header, p.bitcode)).map_err(refusal_of);
+    same!(data, safe, expected.map(|p| (header_of(&p), p.bitcode)), "safe dxil");
+    if [0, 42].contains(&got.verdict.number) {
+        let (offset, size) = (get4(data, 16), get4(data, 20));
+        let end = 8 + u64::from(offset) + u64::from(size);
+        let len = data.len() as u64;
+        if end == len {
+            hits.saw(Seen::AtEnd);
+        } else if end == len + 1 {
+            hits.saw(Seen::OnePast);
+        } else if end > len && end % (1 << 32) <= len {
+            hits.saw(Seen::Wraps);
+        }
+    }
+    Ok(())
+}
+
 /// Queries on bytes that don't open give what opening gives.
 fn refused(random: &mut Random, reader: &Reader, bytes: &[u8], edition: usize, refusal: Refusal) -> Check {
     let name = reader.name;
@@ -359,9 +501,13 @@ fn refused(random: &mut Random, reader: &Reader, bytes: &[u8], edition: usize, r
     span(bytes, got, Err(refusal), format_args!("{name} refused section {edition} {section}"))
 }
 
+fn refusal_of(refusal: qollqamir::Refusal) -> Refusal {
+    Refusal { number: refusal.number, place: refusal.place }
+}
+
 /// The safe types show what the plain calls show.
 fn wrapped(reader: &Reader, bytes: &[u8], edition: usize, opening: &Opening) -> Check {
-    let refusal = |refusal: qollqamir::Refusal| Refusal { number: refusal.number, place: refusal.place };
+    let refusal = refusal_of;
     macro_rules! shown {
         ($open:expr) => {{
             let safe = $open
@@ -385,12 +531,18 @@ fn wrapped(reader: &Reader, bytes: &[u8], edition: usize, opening: &Opening) -> 
             let (s, h) = (safe.sections(), opening.handed);
             let sections = [s.runtime, s.resources, s.strings, s.indices, s.elements, s.masks];
             same!(bytes, sections, [h.runtime, h.resources, h.strings, h.indices, h.elements, h.masks], "safe sections");
+            safe
         }};
     }
-    match reader.call {
-        Call::Open => shown!(qollqamir::Container::open(bytes, edition)),
-        _ => shown!(qollqamir::Psv0::open(bytes, edition)),
+    if !matches!(reader.call, Call::Open) {
+        shown!(qollqamir::Psv0::open(bytes, edition));
+        return Ok(());
     }
+    let safe = shown!(qollqamir::Container::open(bytes, edition));
+    let report = safe.program().map(|r| (r.header, r.bitcode, r.psv0_stage, r.stages)).map_err(refusal);
+    let expected = reference::program_report(bytes, edition);
+    let expected = expected.map(|r| (header_of(&r.program), r.program.bitcode, r.psv0_stage, stages_of(r.stages).1));
+    same!(bytes, report, expected, "safe program {edition}");
     Ok(())
 }
 

@@ -38,6 +38,35 @@ pub fn editions(reader: &Reader, bytes: &[u8]) -> Check {
     Ok(())
 }
 
+/// A report but for its stages, with the bitcode's bytes in the place of where they lie.
+fn reported<'a>(bytes: &'a [u8], report: &raw::ProgramReport) -> (raw::Verdict, raw::ProgramHeader, &'a [u8]) {
+    (report.verdict, report.header, &bytes[report.start..report.start + report.len])
+}
+
+/// Where the newer reader opens the bytes, both report the same verdict, header and bitcode, and a stage that the older shows is the
+/// newer's; what the newer's report accepts, the older's accepts. Where the older doesn't open them, the newer's report gives its refusal.
+pub fn programs(bytes: &[u8]) -> Check {
+    for newer in 1..4 {
+        let older = newer - 1;
+        let (old, new) = (raw::program(bytes, older), raw::program(bytes, newer));
+        let opened = raw::open(bytes, older).verdict;
+        if opened.number != 0 {
+            same!(bytes, new.verdict, opened, "programs of editions {older} and {newer}, refused by opening");
+        }
+        if new.verdict.number == 0 {
+            same!(bytes, old.verdict.number, 0, "programs of editions {older} and {newer}, accepted");
+        }
+        if raw::open(bytes, newer).verdict.number != 0 {
+            continue;
+        }
+        same!(bytes, reported(bytes, &new), reported(bytes, &old), "programs of editions {older} and {newer}");
+        if old.psv0_stage.set != 0 {
+            same!(bytes, (new.psv0_stage, new.stages), (old.psv0_stage, old.stages), "stages of editions {older} and {newer}");
+        }
+    }
+    Ok(())
+}
+
 /// Makes a widening of pieces that reader `k` accepts, and looks whether the same is shown. Answers whether there was one to make.
 pub fn widening(random: &mut Random, pieces: &Pieces, parts: &Parts, bytes: &[u8], k: usize) -> Result<bool, Mismatch> {
     if raw::open(bytes, k).verdict.number != 0 || pieces.runtime.len() < SIZES[k] {
@@ -74,6 +103,9 @@ pub fn widening(random: &mut Random, pieces: &Pieces, parts: &Parts, bytes: &[u8
     let (resources, elements) = list_lengths(&CONTAINER, bytes, k);
     let narrow = shown(&CONTAINER, bytes, k, resources, elements);
     same!(widened, shown(&CONTAINER, &widened, k, resources, elements), narrow, "shown of a widening at {k}");
+    let (narrow, wide) = (raw::program(bytes, k), raw::program(&widened, k));
+    same!(widened, reported(&widened, &wide), reported(bytes, &narrow), "program of a widening at {k}");
+    same!(widened, (wide.psv0_stage, wide.stages), (narrow.psv0_stage, narrow.stages), "stages of a widening at {k}");
     Ok(true)
 }
 

@@ -13,7 +13,7 @@ use std::panic::{catch_unwind, AssertUnwindSafe};
 use std::process::ExitCode;
 use std::time::Instant;
 
-use compare::{Call, Check, Hits, Mismatch, CALLS, CONTAINER, PSV0};
+use compare::{Call, Check, Hits, Mismatch, CALLS, CONTAINER, NUMBERS, PSV0, SEEN};
 use make::{Pieces, SIZES};
 use random::Random;
 
@@ -108,7 +108,10 @@ fn summary(done: &Done) -> Vec<String> {
         print!("{name:>12}");
     }
     println!();
-    for number in 0..=28 {
+    for number in 0..NUMBERS {
+        if number != 0 && !CALLS.iter().any(|(_, can)| can.contains(&(number as u8))) {
+            continue;
+        }
         print!("{:>6}  ", if number == 0 { "ok".to_string() } else { number.to_string() });
         for (call, (name, can)) in CALLS.iter().enumerate() {
             let count = done.hits.counts[call][number];
@@ -131,6 +134,12 @@ fn summary(done: &Done) -> Vec<String> {
             }
         }
         println!();
+    }
+    for (what, count) in SEEN.iter().zip(done.hits.seen) {
+        println!("{what}: {count}");
+        if count == 0 {
+            missed.push(what.to_string());
+        }
     }
     println!("containers accepted by readers 0 to 3: {:?}", done.accepted);
     println!("widenings for readers 0 to 3: {:?}", done.widenings);
@@ -163,7 +172,7 @@ fn vectors() -> Vec<Vec<u8>> {
 /// One container or PSV0 data, or both, looked at from every side.
 fn case(seed: u64, number: u64, vectors: &[Vec<u8>], done: &mut Done) -> Check {
     let random = &mut Random::new(seed, number);
-    match random.below(100) {
+    match random.below(102) {
         0..=3 => {
             let len = random.below(160);
             let mut bytes = random.bytes(len);
@@ -174,6 +183,7 @@ fn case(seed: u64, number: u64, vectors: &[Vec<u8>], done: &mut Done) -> Check {
                 make::put4(&mut bytes, 28, random.pick(&[0, 1, 2, 3, 96]));
             }
             container_case(random, &bytes, done)?;
+            compare::dxil(&bytes, &mut done.hits)?;
             psv0_case(random, &bytes, done)
         }
         4..=7 if !vectors.is_empty() => {
@@ -242,7 +252,8 @@ fn case(seed: u64, number: u64, vectors: &[Vec<u8>], done: &mut Done) -> Check {
             container_case(random, &bytes, done)
         }
         90..=95 => write_case(random, done),
-        _ => assemble_case(random, done),
+        96..=99 => assemble_case(random, done),
+        _ => dxil_case(random, done),
     }
 }
 
@@ -292,6 +303,26 @@ fn container_case(random: &mut Random, bytes: &[u8], done: &mut Done) -> Check {
     compare::reading(random, &CONTAINER, bytes, beyond, &mut done.hits)?;
     if random.one_in(3) {
         demands::editions(&CONTAINER, bytes)?;
+        demands::programs(bytes)?;
+    }
+    if let Ok((_, data)) = reference::table_part(bytes, *b"DXIL") {
+        compare::dxil(data, &mut done.hits)?;
+    }
+    Ok(())
+}
+
+/// DXIL data alone: as made, damaged, cut or lengthened.
+fn dxil_case(random: &mut Random, done: &mut Done) -> Check {
+    for _ in 0..8 {
+        let stage = random.below(16) as u8;
+        let mut data = make::dxil(random, stage);
+        compare::dxil(&data, &mut done.hits)?;
+        if random.one_in(2) {
+            make::damage(random, &mut data, &[0, 8, 16, 20]);
+        } else {
+            make::resize(random, &mut data);
+        }
+        compare::dxil(&data, &mut done.hits)?;
     }
     Ok(())
 }
@@ -405,7 +436,8 @@ fn assemble_case(random: &mut Random, done: &mut Done) -> Check {
 fn longest(hits: &mut Hits) -> Check {
     let random = &mut Random::new(1, 1);
     let psv0 = Pieces::valid_of(random, 52).bytes().0;
-    let parts = vec![(*b"DXIL", b"code".to_vec()), (*b"PSV0", psv0.clone())];
+    let mut program = b"\x65\0\x05\0\x07\0\0\0DXIL\x07\x01\0\0\x10\0\0\0\x04\0\0\0code".to_vec();
+    let parts = vec![(*b"DXIL", program.clone()), (*b"PSV0", psv0.clone())];
     let mut bytes = make::container(random, &parts).0;
     for len in [LONGEST, LONGEST + 1] {
         bytes.resize(len, 0);
@@ -421,6 +453,12 @@ fn longest(hits: &mut Hits) -> Check {
         for edition in [0, 3, 4] {
             compare::reading(random, &PSV0, &data, edition, hits)?;
         }
+    }
+    // DXIL data alone may be longer than a container.
+    program.resize(LONGEST + 9, 0);
+    for size in [LONGEST - 15, LONGEST - 14] {
+        make::put4(&mut program, 20, size as u32);
+        compare::dxil(&program, hits)?;
     }
     // 52 bytes beside the strings of edition 1; 44 beside the data of one part.
     let mut runtime = [0; 36];

@@ -1,4 +1,4 @@
-//! Containers and PSV0 data, made at random: right ones, ones with a flaw in one place, and damaged bytes.
+//! Containers, PSV0 and DXIL data, made at random: right ones, ones with a flaw in one place, and damaged bytes.
 
 use crate::random::Random;
 
@@ -291,6 +291,45 @@ impl Pieces {
     }
 }
 
+/// DXIL data, never empty: mostly with a program header, whose stage is often the one given, and bitcode that ends with the data or near
+/// their end; now and then a few bytes of junk.
+pub fn dxil(random: &mut Random, stage: u8) -> Vec<u8> {
+    if random.one_in(4) {
+        let len = 1 + random.below(8);
+        return random.bytes(len);
+    }
+    let len = if random.one_in(6) { random.pick(&[20, 22, 23, 23, 24, 24, 25]) } else { 24 + random.below(40) };
+    let mut data = random.bytes(len.max(24));
+    // The stage given, ones that differ from it in one of their two bytes, any other.
+    let (stage, any) = (u16::from(stage), random.next() as u16);
+    let stage = random.pick(&[stage, stage, stage, stage ^ 1, stage + 256, any & 0xff00 | stage, any & 15, any]);
+    data[2..4].copy_from_slice(&stage.to_le_bytes());
+    data[8..12].copy_from_slice(b"DXIL");
+    if random.one_in(12) {
+        data[8 + random.below(4)] ^= 1 << random.below(8);
+    }
+    // With `left` for its size the bitcode ends with the data or, where the offset is past them, 2^32 bytes after that.
+    let room = data.len() as u32 - 8;
+    let offset = match random.below(12) {
+        0 => random.pick(&[room, room + 1, u32::MAX, u32::MAX - 7, u32::MAX - 15, 1 << 31]),
+        1 | 2 => random.below(room as usize + 1) as u32,
+        3 => random.below(16) as u32,
+        _ => 16,
+    };
+    let left = room.wrapping_sub(offset);
+    let size = match random.below(12) {
+        0 => random.pick(&[0, u32::MAX, u32::MAX - 7, 1 << 31, offset.wrapping_neg(), offset.wrapping_neg().wrapping_sub(8)]),
+        1 => left.wrapping_add(1),
+        2 => left.wrapping_sub(1),
+        3 => random.below(len) as u32,
+        _ => left,
+    };
+    put4(&mut data, 16, offset);
+    put4(&mut data, 20, size);
+    data.truncate(len);
+    data
+}
+
 /// The parts of a container, in order.
 pub type Parts = Vec<([u8; 4], Vec<u8>)>;
 
@@ -311,9 +350,10 @@ pub fn parts(random: &mut Random, psv0: &[u8]) -> Parts {
         let len = random.below(9);
         parts.push((name, random.bytes(len)));
     }
-    let len = 1 + random.below(8);
+    // PSV0's stage stands at byte 24 of the runtime record, from edition 1 on.
+    let stage = psv0.get(28).copied().unwrap_or(0);
     let at = random.below(parts.len() + 1);
-    parts.insert(at, (*b"DXIL", random.bytes(len)));
+    parts.insert(at, (*b"DXIL", dxil(random, stage)));
     let at = if random.one_in(2) { parts.len() } else { random.below(parts.len() + 1) };
     parts.insert(at, (*b"PSV0", psv0.to_vec()));
     parts

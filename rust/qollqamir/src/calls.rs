@@ -125,6 +125,38 @@ structs! {
         verdict: Verdict,
         len: usize,
     }
+
+    /// The fields of the program header of a DXIL part and of the bitcode header in it, as they stand. `words` is the size in 4-byte units;
+    /// the bitcode's offset counts from the bitcode header's start, byte 8 of the data.
+    ProgramHeader {
+        version_major: u32,
+        version_minor: u32,
+        stage: u32,
+        words: u32,
+        bitcode_major: u32,
+        bitcode_minor: u32,
+        bitcode_offset: u32,
+        bitcode_size: u32,
+    }
+
+    /// The data of a DXIL part: the header's fields, and the bitcode as a stretch of the data.
+    ProgramData {
+        verdict: Verdict,
+        header: ProgramHeader,
+        start: usize,
+        len: usize,
+    }
+
+    /// The report on a container's DXIL part: the header's fields, the bitcode as a stretch of the container, the stage that PSV0 shows,
+    /// and how the header's compares with it: 0 unset, 1 equal, 2 different.
+    ProgramReport {
+        verdict: Verdict,
+        header: ProgramHeader,
+        start: usize,
+        len: usize,
+        psv0_stage: Field,
+        stages: usize,
+    }
 }
 
 mod archive {
@@ -150,6 +182,8 @@ mod archive {
         pub fn qollqamir_psv0_lengths(data: *const u8, len: usize, edition: usize) -> Lengths;
         pub fn qollqamir_psv0_view(data: *const u8, len: usize, edition: usize, kind: u32, number: usize) -> Span;
         pub fn qollqamir_psv0_section(data: *const u8, len: usize, edition: usize, section: u32) -> Span;
+        pub fn qollqamir_dxil_program(data: *const u8, len: usize) -> ProgramData;
+        pub fn qollqamir_program(bytes: *const u8, len: usize, edition: usize) -> ProgramReport;
         pub fn qollqamir_write_psv0(
             edition: usize,
             runtime: *const u8,
@@ -230,6 +264,10 @@ readers! {
     psv0_view => qollqamir_psv0_view(edition: usize, kind: u32, number: usize) -> Span;
     /// As [`section`], of PSV0 data alone.
     psv0_section => qollqamir_psv0_section(edition: usize, section: u32) -> Span;
+    /// The program header and the bitcode, of the data of a DXIL part alone: 40 to 42.
+    dxil_program => qollqamir_dxil_program() -> ProgramData;
+    /// The report on a container's DXIL part: 25, 1 to 24, 40 to 42.
+    program => qollqamir_program(edition: usize) -> ProgramReport;
 }
 
 /// A part by its name from the table alone: 1 to 9, 26.

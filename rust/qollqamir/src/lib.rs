@@ -1,7 +1,8 @@
-//! Safe calls to the proved reader and writer of DirectX shader containers and their PSV0 part.
+//! Safe calls to the proved reader and writer of DirectX shader containers and their PSV0 part, and to the reader of the DXIL part's
+//! header.
 //!
-//! Any bytes get an answer: the value, or a [`Refusal`] with a number of document 01 and a place. Views are slices of the bytes handed in.
-//! A value that the file's edition or stage lacks is `None`.
+//! Any bytes get an answer: the value, or a [`Refusal`] with a number of documents 01 and 02 and a place. Views are slices of the bytes
+//! handed in. A value that the file's edition or stage lacks is `None`.
 //!
 //! ```
 //! use qollqamir::{assemble, write_psv0, Container, Sections};
@@ -26,6 +27,9 @@
 
 mod calls;
 
+// Nothing in it can be unset, so it is shown as the call gives it.
+pub use calls::ProgramHeader;
+
 /// The library's calls as the C header has them: plain structs that begin with a verdict.
 pub mod raw {
     pub use crate::calls::*;
@@ -37,10 +41,10 @@ pub type Edition = usize;
 /// The edition that [`Container::open_default`] reads as.
 pub const DEFAULT_EDITION: Edition = 1;
 
-/// A refusal: a number of document 01's table, and a place (a part or an element where the number has one, otherwise 0).
+/// A refusal: a number of documents 01 and 02, and a place (a part or an element where the number has one, otherwise 0).
 #[derive(Clone, Copy, Debug, PartialEq, Eq, Hash)]
 pub struct Refusal {
-    /// 1 to 28.
+    /// 1 to 28, or 40 to 42.
     pub number: u8,
     /// The part or element, from 0.
     pub place: usize,
@@ -152,8 +156,41 @@ pub struct Sections<'a> {
     pub masks: &'a [u8],
 }
 
+/// How the program header's stage compares with PSV0's, as numbers.
+#[derive(Clone, Copy, Debug, PartialEq, Eq, Hash)]
+pub enum Stages {
+    /// The same.
+    Equal,
+    /// Not the same.
+    Different,
+    /// PSV0 shows no stage.
+    Unset,
+}
+
+/// The data of a DXIL part.
+#[derive(Clone, Copy, Debug, PartialEq, Eq)]
+pub struct Program<'a> {
+    /// The fields of the program header and of the bitcode header in it.
+    pub header: ProgramHeader,
+    /// A part of the data that were handed in.
+    pub bitcode: &'a [u8],
+}
+
+/// The report on a container's DXIL part.
+#[derive(Clone, Copy, Debug, PartialEq, Eq)]
+pub struct ProgramReport<'a> {
+    /// The fields of the program header and of the bitcode header in it.
+    pub header: ProgramHeader,
+    /// A part of the container.
+    pub bitcode: &'a [u8],
+    /// The stage that PSV0 shows at the edition.
+    pub psv0_stage: Option<u32>,
+    /// The header's stage beside it.
+    pub stages: Stages,
+}
+
 fn judged(verdict: raw::Verdict) -> Result<(), Refusal> {
-    match u8::try_from(verdict.number).expect("a number of document 01 is at most 28") {
+    match u8::try_from(verdict.number).expect("the numbers are 1 to 28 and 40 to 42") {
         0 => Ok(()),
         number => Err(Refusal { number, place: verdict.place }),
     }
@@ -256,6 +293,24 @@ pub fn known(name: [u8; 4]) -> bool {
     raw::known(&name)
 }
 
+/// The program header and the bitcode, of the data of a DXIL part alone. Refusals in order: 40 (under 24 bytes), 41 (a wrong mark), 42 (the
+/// bitcode ends past the data). Nothing else is judged, so an offset below 16 shows bytes of the headers.
+///
+/// ```
+/// use qollqamir::{dxil_program, Refusal};
+///
+/// let data = b"\x65\0\x05\0\x07\0\0\0DXIL\x07\x01\0\0\x10\0\0\0\x04\0\0\0code";
+/// let program = dxil_program(data)?;
+/// assert_eq!((program.header.version_major, program.header.version_minor, program.header.stage), (6, 5, 5));
+/// assert_eq!(program.bitcode, b"code");
+/// assert_eq!(dxil_program(&data[..27]).unwrap_err(), Refusal { number: 42, place: 0 });
+/// # Ok::<(), Refusal>(())
+/// ```
+pub fn dxil_program(data: &[u8]) -> Result<Program<'_>, Refusal> {
+    let raw::ProgramData { verdict, header, start, len } = raw::dxil_program(data);
+    Ok(Program { header, bitcode: shown(data, raw::Span { verdict, start, len })? })
+}
+
 /// Writes PSV0 data in plain form to the front of `out` and answers its length. Refusals in order: 25, 27, 2, 15 to 24, 28. A refusal
 /// leaves `out` as it was; bytes past the result stay.
 pub fn write_psv0(edition: Edition, sections: Sections<'_>, out: &mut [u8]) -> Result<usize, Refusal> {
@@ -278,6 +333,9 @@ const ELEMENT_STRING: u32 = 1;
 const ELEMENT_ARRAY: u32 = 2;
 const ENTRY_NAME: u32 = 3;
 const MASK: u32 = 4;
+
+const STAGES_EQUAL: usize = 1;
+const STAGES_DIFFERENT: usize = 2;
 
 /// The queries that an opened container and opened PSV0 data share.
 macro_rules! queries {
@@ -407,6 +465,18 @@ impl<'a> Container<'a> {
     /// A part by its name, or 26.
     pub fn part(&self, name: [u8; 4]) -> Result<Part<'a>, Refusal> {
         found(self.bytes, name, raw::part(self.bytes, self.edition, &name))
+    }
+
+    /// The report on the DXIL part: 40 to 42 as [`dxil_program`] gives them.
+    pub fn program(&self) -> Result<ProgramReport<'a>, Refusal> {
+        let raw::ProgramReport { verdict, header, start, len, psv0_stage, stages } = raw::program(self.bytes, self.edition);
+        let bitcode = shown(self.bytes, raw::Span { verdict, start, len })?;
+        let stages = match stages {
+            STAGES_EQUAL => Stages::Equal,
+            STAGES_DIFFERENT => Stages::Different,
+            _ => Stages::Unset,
+        };
+        Ok(ProgramReport { header, bitcode, psv0_stage: value(psv0_stage), stages })
     }
 
     queries!(runtime_info, resource, element, lengths, view, section);

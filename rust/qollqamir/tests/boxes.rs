@@ -1,4 +1,4 @@
-//! The boxes M and C of document 01 through the safe calls, and the last field of every struct.
+//! The boxes M and C of document 01 through the safe calls, the program header of document 02, and the last field of every struct.
 
 use qollqamir::*;
 
@@ -6,21 +6,34 @@ fn refused<T>(number: u8, place: usize) -> Result<T, Refusal> {
     Err(Refusal { number, place })
 }
 
-fn shader(psv0: &[u8]) -> Vec<u8> {
-    let mut out = vec![0xee; 60 + psv0.len()];
-    let data = [b"code", psv0].concat();
-    let len = assemble(b"DXILPSV0", &[4, psv0.len() as u32], &data, &[7; 16], &mut out).unwrap();
+/// A container of a DXIL part, whose data are a multiple of 4 bytes long, and a PSV0 part.
+fn shader_of(dxil: &[u8], psv0: &[u8]) -> Vec<u8> {
+    let mut out = vec![0xee; 56 + dxil.len() + psv0.len()];
+    let data = [dxil, psv0].concat();
+    let len = assemble(b"DXILPSV0", &[dxil.len() as u32, psv0.len() as u32], &data, &[7; 16], &mut out).unwrap();
     assert_eq!(len, out.len());
     out
 }
 
-fn box_m(stated: u8, s: usize) -> Vec<u8> {
+fn shader(psv0: &[u8]) -> Vec<u8> {
+    shader_of(b"code", psv0)
+}
+
+fn psv0_m(stated: u8, s: usize) -> Vec<u8> {
     let mut psv0 = vec![0; 4 + s + 4];
     psv0[0] = stated;
-    shader(&psv0)
+    psv0
+}
+
+fn box_m(stated: u8, s: usize) -> Vec<u8> {
+    shader(&psv0_m(stated, s))
 }
 
 fn box_c(s: usize, offset: u8) -> Vec<u8> {
+    shader(&psv0_c(s, offset))
+}
+
+fn psv0_c(s: usize, offset: u8) -> Vec<u8> {
     let mut psv0 = vec![0; 4 + s];
     psv0[0] = s as u8;
     psv0[4 + 24] = 5;
@@ -29,7 +42,16 @@ fn box_c(s: usize, offset: u8) -> Vec<u8> {
     psv0.extend_from_slice(&[0, 0, 0, 0, 8, 0, 0, 0]);
     psv0.extend_from_slice(b"\0main\0\0\0");
     psv0.extend_from_slice(&[0; 4]);
-    shader(&psv0)
+    psv0
+}
+
+/// DXIL data of version 6.10 with bitcode of version 252.11: 24 bytes of headers and 8 after them.
+fn dxil(stage: u16, offset: u32, size: u32) -> Vec<u8> {
+    let mut data = b"\x6a\xe1..\x78\x56\x34\x12DXIL\x0b\xfc\xe2\xe3..........bit...".to_vec();
+    data[2..4].copy_from_slice(&stage.to_le_bytes());
+    data[16..20].copy_from_slice(&offset.to_le_bytes());
+    data[20..24].copy_from_slice(&size.to_le_bytes());
+    data
 }
 
 #[test]
@@ -134,4 +156,61 @@ fn names_and_refused_assemblies() {
     assert_eq!(assemble(b"AAAA", &[0], &[], &[0; 16], &mut out), Ok(44));
     assert_eq!(table_part(&out[..44], *b"AAAA").unwrap().offset, 36);
     assert_eq!(Refusal { number: 8, place: 3 }.to_string(), "refused 8 3");
+}
+
+#[test]
+fn a_program_header_is_shown_with_both_stages() {
+    for (stage, beside) in [(5, Stages::Equal), (6, Stages::Different), (261, Stages::Different)] {
+        let data = dxil(stage, 18, 3);
+        let header = ProgramHeader {
+            version_major: 6,
+            version_minor: 10,
+            stage: stage.into(),
+            words: 0x1234_5678,
+            bitcode_major: 252,
+            bitcode_minor: 11,
+            bitcode_offset: 18,
+            bitcode_size: 3,
+        };
+        assert_eq!(dxil_program(&data), Ok(Program { header, bitcode: b"bit" }));
+        let (c, m) = (shader_of(&data, &psv0_c(52, 1)), shader_of(&data, &psv0_m(24, 24)));
+        for edition in 0..=3 {
+            let report = Container::open(&c, edition).unwrap().program().unwrap();
+            let (psv0_stage, stages) = if edition == 0 { (None, Stages::Unset) } else { (Some(5), beside) };
+            assert_eq!(report, ProgramReport { header, bitcode: b"bit", psv0_stage, stages });
+            assert_eq!(report.bitcode.as_ptr(), c[48 + 26..].as_ptr());
+            // A file of edition 0 shows no stage to any reader.
+            let report = Container::open(&m, edition).unwrap().program();
+            assert_eq!(report, Ok(ProgramReport { header, bitcode: b"bit", psv0_stage: None, stages: Stages::Unset }));
+        }
+    }
+    // An offset below 16 is not judged, and the bitcode may end where the data do.
+    assert_eq!(dxil_program(&dxil(5, 0, 4)).unwrap().bitcode, b"DXIL");
+    assert_eq!(dxil_program(&dxil(5, 16, 8)).unwrap().bitcode, b"..bit...");
+    assert_eq!(dxil_program(&dxil(5, 24, 0)).unwrap().bitcode, b"");
+}
+
+#[test]
+fn a_program_header_is_refused() {
+    let refuses = |data: &[u8], number| {
+        assert_eq!(dxil_program(data), refused(number, 0));
+        let bytes = shader_of(data, &psv0_c(52, 1));
+        for edition in 0..=3 {
+            assert_eq!(Container::open(&bytes, edition).unwrap().program(), refused(number, 0));
+        }
+    };
+    refuses(b"code", 40);
+    refuses(&dxil(5, 16, 8)[..20], 40);
+    assert_eq!(dxil_program(&[]), refused(40, 0));
+    assert_eq!(dxil_program(&dxil(5, 16, 0)[..23]), refused(40, 0));
+    assert!(dxil_program(&dxil(5, 16, 0)[..24]).is_ok());
+    for at in 8..12 {
+        let mut data = dxil(5, 16, 9);
+        data[at] ^= 1;
+        refuses(&data, 41);
+    }
+    // One above the length, and sums that 32 bits would take back inside the data.
+    for (offset, size) in [(16, 9), (25, 0), (u32::MAX, 25), (25, u32::MAX), (16, u32::MAX - 23), (u32::MAX, u32::MAX)] {
+        refuses(&dxil(5, offset, size), 42);
+    }
 }
