@@ -75,6 +75,30 @@ module _ (k : ℕ) (b b′ : List ℕ) (w : WiderContainer k b b′) (x : ℕ) (
       ∙ rw (find-same k b b′ w x, data-kept) (sym (reported-open judge x k b o))
 
 -- ---- the steps of the code: r is the part that was asked for
+module _ (k : ℕ) (b : List ℕ) (x : ℕ) {r : Part} (hr : r ≡ containerPart k b x) (h : r .verdict ≡ Accepted) where
+  there : partAt b (find b x) .verdict ≡ Accepted
+  there = rw (shown-part k b x hr h) at h
+
+  pub starts-at : r .offset + 8 ≡ startFound b (find b x)
+  starts-at = rw (shown-part k b x hr h) (go (find b x) there)
+    where
+      go : (f : Found) → partAt b f .verdict ≡ Accepted → partAt b f .offset + 8 ≡ startFound b f
+      go (At i) e = refl
+      go Nothing e = absurd (let z : _≡_ {A = ℕ} 0 1 = cc in omega arith)
+
+-- the data that the query for the part hands out, where the container opens
+pub opened-data : (k : ℕ) (b : List ℕ) (x : ℕ) → containerJudged k b ≡ Accepted → partDataOf k b x ≡ dataNamed b x
+unfolding partDataOf dataNamed containerPart
+opened-data k b x o = rw o (go (find b x))
+  where
+    go : (f : Found) → dataIf (partAt b f .verdict) b (partAt b f .number) ≡ dataFound b f
+    go (At i) = refl
+    go Nothing = refl
+
+pub data-there : (k : ℕ) (b : List ℕ) (x : ℕ) {r : Part} → r ≡ containerPart k b x → r .verdict ≡ Accepted
+    → take (r .offset + 8 + r .size - (r .offset + 8)) (drop (r .offset + 8) b) ≡ dataNamed b x
+data-there k b x hr h = part-data k b x hr h ∙ opened-data k b x (opens k b x hr h)
+
 part-verdict : (v : Verdict) (b : List ℕ) (x : ℕ) → partIf v b x .verdict ≡ (v then check (isThere (find b x)) 26 0)
 unfolding _then_ check
 part-verdict (Refused n p) b x = refl
@@ -97,24 +121,6 @@ module _ (judge : List ℕ → Verdict) (k : ℕ) (b : List ℕ) (x : ℕ) {r : 
   pub no-report : {n p : ℕ} → r .verdict ≡ Refused n p → Refused n p ≡ reported judge x k b
   no-report h = stop-then (r .verdict) (judge (dataNamed b x)) _ _ h ∙ sym reported-is
 
-  module _ (h : r .verdict ≡ Accepted) where
-    pub data-reported : judge (dataNamed b x) ≡ reported judge x k b
-    unfolding _then_
-    data-reported = sym (reported-is ∙ rw h)
-
-    pub starts-at : r .offset + 8 ≡ startFound b (find b x)
-    starts-at = rw (shown-part k b x hr h) (go (find b x) (rw (shown-part k b x hr h) at h))
-      where
-        go : (f : Found) → partAt b f .verdict ≡ Accepted → partAt b f .offset + 8 ≡ startFound b f
-        go (At i) e = refl
-        go Nothing e = absurd (let z : _≡_ {A = ℕ} 0 1 = cc in omega arith)
-
-    pub data-there : take (r .offset + 8 + r .size - (r .offset + 8)) (drop (r .offset + 8) b) ≡ dataNamed b x
-    unfolding partDataOf dataNamed containerPart
-    data-there =
-        let o = opens k b x hr h in
-        part-data k b x hr h ∙ rw o (go (find b x) (rw (shown-part k b x hr h) at h))
-      where
-        go : (f : Found) → partAt b f .verdict ≡ Accepted → dataIf (partAt b f .verdict) b (partAt b f .number) ≡ dataFound b f
-        go (At i) e = refl
-        go Nothing e = absurd (let z : _≡_ {A = ℕ} 0 1 = cc in omega arith)
+  pub data-reported : r .verdict ≡ Accepted → judge (dataNamed b x) ≡ reported judge x k b
+  unfolding _then_
+  data-reported h = sym (reported-is ∙ rw h)

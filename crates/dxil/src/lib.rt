@@ -4,7 +4,7 @@ use dxil_layout::ProgramHeader;
 use wire::Verdict;
 ghost use mathlib.Core.Path.{_≡_};
 ghost use mathlib.Core.List.{[]};
-ghost use Rattle.dxil_layout.specs.Program.{headerOf, programJudged, programIf, programOf, bitcodeOf};
+ghost use Rattle.dxil_layout.specs.Program.{headerOf, programJudged, noHeader, programIf, programOf, bitcodeOf};
 
 // Refusals 40 to 42.
 fn judge(d: &[u8]) -> Verdict
@@ -39,22 +39,29 @@ fn header(d: &[u8]) -> ProgramHeader
     }
 }
 
+// The fields beside a refusal: zeros.
+pub fn no_header() -> ProgramHeader
+    ensures { λ r. ⌜ r ≡ noHeader ⌝ }
+{
+    ProgramHeader {
+        version_major: 0,
+        version_minor: 0,
+        stage: 0,
+        words: 0,
+        bitcode_major: 0,
+        bitcode_minor: 0,
+        bitcode_offset: 0,
+        bitcode_size: 0,
+    }
+}
+
 // What a refusal shows.
 fn no_program(n: u8, place: usize) -> Program
     ensures { λ r. ⌜ r ≡ programIf (Verdict.Refused n place) [] ⌝ }
 {
     Program {
         verdict: Verdict::Refused(n, place),
-        header: ProgramHeader {
-            version_major: 0,
-            version_minor: 0,
-            stage: 0,
-            words: 0,
-            bitcode_major: 0,
-            bitcode_minor: 0,
-            bitcode_offset: 0,
-            bitcode_size: 0,
-        },
+        header: no_header(),
         start: 0,
         len: 0,
     }

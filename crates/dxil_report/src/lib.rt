@@ -1,6 +1,5 @@
 // The report on the DXIL part of a container, above the opening and the reader of DXIL data through their promises: what opening gives, then
 // 40 to 42; the program header, the bitcode, and the stage that PSV0 shows beside the header's. Beside a refusal nothing of the file is shown.
-use dxil_layout::ProgramHeader;
 use dxil_report_layout::ProgramReport;
 use dxil_report_layout::Stages;
 use psv0_layout::Field;
@@ -30,16 +29,7 @@ fn refused(n: u8, place: usize) -> ProgramReport
 {
     ProgramReport {
         verdict: Verdict::Refused(n, place),
-        header: ProgramHeader {
-            version_major: 0,
-            version_minor: 0,
-            stage: 0,
-            words: 0,
-            bitcode_major: 0,
-            bitcode_minor: 0,
-            bitcode_offset: 0,
-            bitcode_size: 0,
-        },
+        header: dxil::no_header(),
         start: 0,
         len: 0,
         psv0_stage: Field::Unset,

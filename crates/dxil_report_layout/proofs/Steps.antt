@@ -12,7 +12,7 @@ use Rattle.wire.specs.Verdict.{_then_, check}
 use Rattle.wire.specs.declared.Verdict.{Verdict}
 use Rattle.wire.specs.declared.Verdict.the-variants.{Accepted, Refused}
 use Rattle.wire.proofs.Verdicts.{check-then}
-use Rattle.part_table_layout.specs.Lookup.{find, partAt, dataIf}
+use Rattle.part_table_layout.specs.Lookup.{find, partAt}
 use Rattle.part_table_layout.specs.declared.Found.{Found}
 use Rattle.part_table_layout.specs.declared.Found.the-variants.{At, Nothing}
 use Rattle.part_table_layout.specs.declared.Part.{Part}
@@ -24,7 +24,7 @@ use Rattle.psv0_layout.proofs.Positions.{part-part}
 use Rattle.container_layout.specs.Container.{dxil, isThere, startFound, dataFound, containerJudged, containerAnswered, containerPart, partDataOf}
 use Rattle.container_layout.specs.Report.{dataNamed, reported}
 use Rattle.container_layout.proofs.Parts.{part-fits, part-short}
-use Rattle.container_layout.proofs.Reports.{reported-open, reported-opens, reported-refused, no-report, data-reported, starts-at, data-there}
+use Rattle.container_layout.proofs.Reports.{reported-open, reported-opens, reported-refused, no-report, data-reported, starts-at, data-there, opened-data}
 use Rattle.dxil_layout.specs.Program.{bitcodeStart, programJudged, programIf, programOf, bitcodeOf}
 use Rattle.dxil_layout.specs.declared.Program.{Program}
 use Rattle.dxil_layout.proofs.Programs.{judged-is, stretch-inside}
@@ -50,7 +50,7 @@ module _ (k : ℕ) (b : List ℕ) {r : Part} (hr : r ≡ containerPart k b dxil)
   module _ (h : r .verdict ≡ Accepted) {p : Program}
       (hp : p ≡ programOf (take (r .offset + 8 + r .size - (r .offset + 8)) (drop (r .offset + 8) b))) where
     program-is : p ≡ programOf (dataNamed b dxil)
-    program-is = rw (data-there programJudged k b dxil hr h) at hp
+    program-is = rw (data-there k b dxil hr h) at hp
 
     reported-is : p .verdict ≡ programReported k b
     unfolding programReported
@@ -85,17 +85,9 @@ module _ (k : ℕ) (b : List ℕ) {r : Part} (hr : r ≡ containerPart k b dxil)
           }
           ≡ programReportOf k b
       unfolding programReportOf psvStage infoAnswerOf infoOf
-      program-accepted ha hs = rw (hs, ha, starts-at programJudged k b dxil hr h, shown, ← reported-is, e)
+      program-accepted ha hs = rw (hs, ha, starts-at k b dxil hr h, shown, ← reported-is, e)
 
 -- ---- the bitcode of a container, from the DXIL part's data where it opens
-opened-data : (k : ℕ) (b : List ℕ) (x : ℕ) → containerJudged k b ≡ Accepted → partDataOf k b x ≡ dataNamed b x
-unfolding partDataOf dataNamed containerPart
-opened-data k b x o = rw o (go (find b x))
-  where
-    go : (f : Found) → dataIf (partAt b f .verdict) b (partAt b f .number) ≡ dataFound b f
-    go (At i) = refl
-    go Nothing = refl
-
 -- beside a refusal of the data their bitcode has no bytes
 bitcode-beside : (v : Verdict) (d : List ℕ) → programJudged d ≡ v → bitcodeOf d ≡ bytesBeside v (bitcodeOf d)
 unfolding bitcodeOf
@@ -144,7 +136,7 @@ module _ (k : ℕ) (b : List ℕ) (a : programReported k b ≡ Accepted) where
   data-is : take size (drop from b) ≡ dataNamed b dxil
   data-is =
       let z : from + size - from ≡ size = omega arith in
-      rw z at (data-there programJudged k b dxil refl part-there)
+      rw z at (data-there k b dxil refl part-there)
 
   ends : bitcodeStart (dataNamed b dxil) + u32At (dataNamed b dxil) 20 ≤ length (dataNamed b dxil)
   unfolding programOf
@@ -154,12 +146,12 @@ module _ (k : ℕ) (b : List ℕ) (a : programReported k b ≡ Accepted) where
   ends-in-part = let e : length (take size (drop from b)) ≡ length (dataNamed b dxil) = ap length data-is in omega (arith, ends, simp length-take at e)
 
   accepted-inside : startFound b (find b dxil) + bitcodeStart (dataNamed b dxil) + u32At (dataNamed b dxil) 20 ≤ length b
-  accepted-inside = rw (← (starts-at programJudged k b dxil refl part-there)) (omega (arith, ends-in-part, part-fits k b dxil refl part-there))
+  accepted-inside = rw (← (starts-at k b dxil refl part-there)) (omega (arith, ends-in-part, part-fits k b dxil refl part-there))
 
   accepted-bytes : take (u32At (dataNamed b dxil) 20) (drop (startFound b (find b dxil) + bitcodeStart (dataNamed b dxil)) b) ≡ bitcodeOf (dataNamed b dxil)
   unfolding bitcodeOf
   accepted-bytes =
-      rw (← (starts-at programJudged k b dxil refl part-there), there .1)
+      rw (← (starts-at k b dxil refl part-there), there .1)
       (sym (part-part b from size (bitcodeStart (dataNamed b dxil)) (u32At (dataNamed b dxil) 20) ends-in-part) ∙ rw data-is)
 
 pub stretch-inside-container : (k : ℕ) (b : List ℕ) → programReportOf k b .start + programReportOf k b .len ≤ length b
