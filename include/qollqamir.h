@@ -172,29 +172,59 @@ typedef struct {
 #define QOLLQAMIR_SIZE(type, member) sizeof(((type *)0)->member)
 QOLLQAMIR_NO_PADDING(qollqamir_verdict, QOLLQAMIR_SIZE(qollqamir_verdict, number) + QOLLQAMIR_SIZE(qollqamir_verdict, place));
 QOLLQAMIR_NO_PADDING(qollqamir_field, QOLLQAMIR_SIZE(qollqamir_field, set) + QOLLQAMIR_SIZE(qollqamir_field, value));
-QOLLQAMIR_NO_PADDING(qollqamir_parts, sizeof(qollqamir_verdict) + QOLLQAMIR_SIZE(qollqamir_parts, count) +
-                                          QOLLQAMIR_SIZE(qollqamir_parts, names) + QOLLQAMIR_SIZE(qollqamir_parts, offsets) +
-                                          QOLLQAMIR_SIZE(qollqamir_parts, sizes));
-QOLLQAMIR_NO_PADDING(qollqamir_found, sizeof(qollqamir_verdict) + QOLLQAMIR_SIZE(qollqamir_found, number) +
-                                          QOLLQAMIR_SIZE(qollqamir_found, offset) + QOLLQAMIR_SIZE(qollqamir_found, size));
-QOLLQAMIR_NO_PADDING(qollqamir_opening, sizeof(qollqamir_verdict) + QOLLQAMIR_SIZE(qollqamir_opening, parts) +
-                                            QOLLQAMIR_SIZE(qollqamir_opening, file_edition) +
-                                            QOLLQAMIR_SIZE(qollqamir_opening, edition_read));
-QOLLQAMIR_NO_PADDING(qollqamir_info, sizeof(qollqamir_verdict) + 19 * sizeof(qollqamir_field));
-QOLLQAMIR_NO_PADDING(qollqamir_resource_record, sizeof(qollqamir_verdict) + 6 * sizeof(qollqamir_field));
-QOLLQAMIR_NO_PADDING(qollqamir_element_record, sizeof(qollqamir_verdict) + 13 * sizeof(qollqamir_field));
-QOLLQAMIR_NO_PADDING(qollqamir_list_lengths, sizeof(qollqamir_verdict) + 4 * sizeof(qollqamir_field));
-QOLLQAMIR_NO_PADDING(qollqamir_span, sizeof(qollqamir_verdict) + QOLLQAMIR_SIZE(qollqamir_span, start) +
-                                         QOLLQAMIR_SIZE(qollqamir_span, len));
-QOLLQAMIR_NO_PADDING(qollqamir_written, sizeof(qollqamir_verdict) + QOLLQAMIR_SIZE(qollqamir_written, len));
-QOLLQAMIR_NO_PADDING(qollqamir_program_header, 8 * sizeof(uint32_t));
-QOLLQAMIR_NO_PADDING(qollqamir_program_data, sizeof(qollqamir_verdict) + sizeof(qollqamir_program_header) +
-                                                 QOLLQAMIR_SIZE(qollqamir_program_data, start) +
-                                                 QOLLQAMIR_SIZE(qollqamir_program_data, len));
-QOLLQAMIR_NO_PADDING(qollqamir_program_report, sizeof(qollqamir_verdict) + sizeof(qollqamir_program_header) +
-                                                   QOLLQAMIR_SIZE(qollqamir_program_report, start) +
-                                                   QOLLQAMIR_SIZE(qollqamir_program_report, len) + sizeof(qollqamir_field) +
-                                                   QOLLQAMIR_SIZE(qollqamir_program_report, stages));
+QOLLQAMIR_NO_PADDING(qollqamir_parts,
+                     QOLLQAMIR_SIZE(qollqamir_parts, verdict) + QOLLQAMIR_SIZE(qollqamir_parts, count) +
+                     QOLLQAMIR_SIZE(qollqamir_parts, names) + QOLLQAMIR_SIZE(qollqamir_parts, offsets) +
+                     QOLLQAMIR_SIZE(qollqamir_parts, sizes));
+QOLLQAMIR_NO_PADDING(qollqamir_found,
+                     QOLLQAMIR_SIZE(qollqamir_found, verdict) + QOLLQAMIR_SIZE(qollqamir_found, number) +
+                     QOLLQAMIR_SIZE(qollqamir_found, offset) + QOLLQAMIR_SIZE(qollqamir_found, size));
+QOLLQAMIR_NO_PADDING(qollqamir_opening,
+                     QOLLQAMIR_SIZE(qollqamir_opening, verdict) + QOLLQAMIR_SIZE(qollqamir_opening, parts) +
+                     QOLLQAMIR_SIZE(qollqamir_opening, file_edition) + QOLLQAMIR_SIZE(qollqamir_opening, edition_read));
+QOLLQAMIR_NO_PADDING(qollqamir_info,
+                     QOLLQAMIR_SIZE(qollqamir_info, verdict) + QOLLQAMIR_SIZE(qollqamir_info, minimum_wave_lanes) +
+                     QOLLQAMIR_SIZE(qollqamir_info, maximum_wave_lanes) + QOLLQAMIR_SIZE(qollqamir_info, stage) +
+                     QOLLQAMIR_SIZE(qollqamir_info, uses_view_id) + QOLLQAMIR_SIZE(qollqamir_info, max_vertex_count) +
+                     QOLLQAMIR_SIZE(qollqamir_info, patch_vectors) + QOLLQAMIR_SIZE(qollqamir_info, mesh_topology) +
+                     QOLLQAMIR_SIZE(qollqamir_info, input_elements) + QOLLQAMIR_SIZE(qollqamir_info, output_elements) +
+                     QOLLQAMIR_SIZE(qollqamir_info, patch_elements) + QOLLQAMIR_SIZE(qollqamir_info, input_vectors) +
+                     QOLLQAMIR_SIZE(qollqamir_info, output_vectors_0) + QOLLQAMIR_SIZE(qollqamir_info, output_vectors_1) +
+                     QOLLQAMIR_SIZE(qollqamir_info, output_vectors_2) + QOLLQAMIR_SIZE(qollqamir_info, output_vectors_3) +
+                     QOLLQAMIR_SIZE(qollqamir_info, threads_x) + QOLLQAMIR_SIZE(qollqamir_info, threads_y) +
+                     QOLLQAMIR_SIZE(qollqamir_info, threads_z) + QOLLQAMIR_SIZE(qollqamir_info, entry_name_offset));
+QOLLQAMIR_NO_PADDING(qollqamir_resource_record,
+                     QOLLQAMIR_SIZE(qollqamir_resource_record, verdict) + QOLLQAMIR_SIZE(qollqamir_resource_record, binding_type) +
+                     QOLLQAMIR_SIZE(qollqamir_resource_record, space) + QOLLQAMIR_SIZE(qollqamir_resource_record, lower_bound) +
+                     QOLLQAMIR_SIZE(qollqamir_resource_record, upper_bound) + QOLLQAMIR_SIZE(qollqamir_resource_record, kind) +
+                     QOLLQAMIR_SIZE(qollqamir_resource_record, flags));
+QOLLQAMIR_NO_PADDING(qollqamir_element_record,
+                     QOLLQAMIR_SIZE(qollqamir_element_record, verdict) + QOLLQAMIR_SIZE(qollqamir_element_record, name_offset) +
+                     QOLLQAMIR_SIZE(qollqamir_element_record, index_reference) + QOLLQAMIR_SIZE(qollqamir_element_record, rows) +
+                     QOLLQAMIR_SIZE(qollqamir_element_record, start_row) + QOLLQAMIR_SIZE(qollqamir_element_record, columns) +
+                     QOLLQAMIR_SIZE(qollqamir_element_record, start_column) + QOLLQAMIR_SIZE(qollqamir_element_record, allocated) +
+                     QOLLQAMIR_SIZE(qollqamir_element_record, semantic_kind) + QOLLQAMIR_SIZE(qollqamir_element_record, component_type) +
+                     QOLLQAMIR_SIZE(qollqamir_element_record, interpolation) + QOLLQAMIR_SIZE(qollqamir_element_record, dynamic_mask) +
+                     QOLLQAMIR_SIZE(qollqamir_element_record, stream) + QOLLQAMIR_SIZE(qollqamir_element_record, reserved));
+QOLLQAMIR_NO_PADDING(qollqamir_list_lengths,
+                     QOLLQAMIR_SIZE(qollqamir_list_lengths, verdict) + QOLLQAMIR_SIZE(qollqamir_list_lengths, resources) +
+                     QOLLQAMIR_SIZE(qollqamir_list_lengths, strings) + QOLLQAMIR_SIZE(qollqamir_list_lengths, indices) +
+                     QOLLQAMIR_SIZE(qollqamir_list_lengths, elements));
+QOLLQAMIR_NO_PADDING(qollqamir_span,
+                     QOLLQAMIR_SIZE(qollqamir_span, verdict) + QOLLQAMIR_SIZE(qollqamir_span, start) + QOLLQAMIR_SIZE(qollqamir_span, len));
+QOLLQAMIR_NO_PADDING(qollqamir_written, QOLLQAMIR_SIZE(qollqamir_written, verdict) + QOLLQAMIR_SIZE(qollqamir_written, len));
+QOLLQAMIR_NO_PADDING(qollqamir_program_header,
+                     QOLLQAMIR_SIZE(qollqamir_program_header, version_major) + QOLLQAMIR_SIZE(qollqamir_program_header, version_minor) +
+                     QOLLQAMIR_SIZE(qollqamir_program_header, stage) + QOLLQAMIR_SIZE(qollqamir_program_header, words) +
+                     QOLLQAMIR_SIZE(qollqamir_program_header, bitcode_major) + QOLLQAMIR_SIZE(qollqamir_program_header, bitcode_minor) +
+                     QOLLQAMIR_SIZE(qollqamir_program_header, bitcode_offset) + QOLLQAMIR_SIZE(qollqamir_program_header, bitcode_size));
+QOLLQAMIR_NO_PADDING(qollqamir_program_data,
+                     QOLLQAMIR_SIZE(qollqamir_program_data, verdict) + QOLLQAMIR_SIZE(qollqamir_program_data, header) +
+                     QOLLQAMIR_SIZE(qollqamir_program_data, start) + QOLLQAMIR_SIZE(qollqamir_program_data, len));
+QOLLQAMIR_NO_PADDING(qollqamir_program_report,
+                     QOLLQAMIR_SIZE(qollqamir_program_report, verdict) + QOLLQAMIR_SIZE(qollqamir_program_report, header) +
+                     QOLLQAMIR_SIZE(qollqamir_program_report, start) + QOLLQAMIR_SIZE(qollqamir_program_report, len) +
+                     QOLLQAMIR_SIZE(qollqamir_program_report, psv0_stage) + QOLLQAMIR_SIZE(qollqamir_program_report, stages));
 #undef QOLLQAMIR_SIZE
 #undef QOLLQAMIR_NO_PADDING
 
