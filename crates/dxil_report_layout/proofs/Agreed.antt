@@ -2,18 +2,25 @@
 -- Assumes nothing.
 use Prim.Native.Nat.{ℕ, _≤_}
 use mathlib.Core.Path.{_≡_, refl, sym, _∙_, ap}
+use mathlib.Core.Bool.{true, true≢false}
 use mathlib.Core.List.{List}
 use native.Mathlib.Omega.{arith}
+use lib.Dec.{ltb}
 use Rattle.constants.specs.Edition.{sizeOf}
 use Rattle.wire.specs.Number.{u32At}
+use Rattle.wire.specs.Verdict.{_then_, check}
 use Rattle.wire.specs.declared.Verdict.{Verdict}
 use Rattle.wire.specs.declared.Verdict.the-variants.{Accepted, Refused}
+use Rattle.part_table_layout.specs.Lookup.{find}
+use Rattle.part_table_layout.specs.declared.Found.{Found}
+use Rattle.part_table_layout.specs.declared.Found.the-variants.{At, Nothing}
 use Rattle.psv0_layout.specs.Answers.{fieldOf}
 use Rattle.psv0_layout.specs.Shown.{stageNumber}
 use Rattle.psv0_layout.specs.declared.Field.the-variants.{Unset}
-use Rattle.container_layout.specs.Container.{dxil, psv0, psvOf, containerJudged}
-use Rattle.container_layout.specs.Report.{dataNamed}
+use Rattle.container_layout.specs.Container.{dxil, psv0, isThere, sizeFound, psvOf, containerJudged}
+use Rattle.container_layout.specs.Report.{dataNamed, reported}
 use Rattle.container_layout.specs.Widened.{WiderContainer}
+use Rattle.container_layout.proofs.Containers.{before-told, opened-told}
 use Rattle.container_layout.proofs.Demand3.{editions-agree, widening-kept}
 use Rattle.container_layout.proofs.Reports.{reports-agree, data-kept, report-kept}
 use Rattle.dxil_layout.specs.Program.{programJudged}
@@ -28,6 +35,20 @@ verdict-if (Refused n p) k b = refl
 pub verdict-is : (k : ℕ) (b : List ℕ) → programReportOf k b .verdict ≡ programReported k b
 unfolding programReportOf
 verdict-is k b = verdict-if (programReported k b) k b
+
+-- "what opening gives, then 40 to 42": 26 is never given, since a container that opens has a DXIL part
+there-if : (b : List ℕ) (f : Found) → ltb 0 (sizeFound b f) ≡ true → isThere f ≡ true
+there-if b (At i) h = refl
+there-if b Nothing h = absurd (true≢false (sym h))
+
+pub program-order : (k : ℕ) (b : List ℕ) → programReported k b ≡ (containerJudged k b then programJudged (dataNamed b dxil))
+unfolding programReported reported _then_ check
+program-order k b = go (containerJudged k b) refl
+  where
+    go : (v : Verdict) → containerJudged k b ≡ v
+        → (v then check (isThere (find b dxil)) 26 0 then programJudged (dataNamed b dxil)) ≡ (v then programJudged (dataNamed b dxil))
+    go (Refused n p) e = refl
+    go Accepted e = let t = there-if b (find b dxil) (before-told k b (opened-told k b e .0) .program) in rw t
 
 -- two reports under one verdict show the same where the data are the same and, where they accept, the stage that PSV0 shows
 module _ (k k′ : ℕ) (b b′ : List ℕ) (d : dataNamed b′ dxil ≡ dataNamed b dxil) where
