@@ -10,7 +10,7 @@ use lib.ListN.{length, getD}
 use Rattle.constants.specs.Edition.{sizeOf}
 use Rattle.constants.proofs.Editions.{size-mono}
 use Rattle.wire.specs.Number.{u32At}
-use Rattle.psv0_layout.specs.Field.{elementTotal}
+use Rattle.psv0_layout.specs.Field.{elementTotal, nameOffset, indexReference, rowCount}
 use Rattle.psv0_layout.specs.Layout.{Records, guideOf, sections, seen, bodyOf, editionRead}
 use Rattle.psv0_layout.specs.Reference.{stringGood, indexGood}
 use Rattle.psv0_layout.proofs.Layouts.{WholeRecords, none, some, WholeBody}
@@ -72,8 +72,9 @@ module _ {d : List ℕ} {p : Places} (g : Reading d p) where
 
     -- the references of every element are good
     pub element-good : (i : ℕ) → i < p .«element_count»
-        → (stringGood (sections d .strings) (u32At (getD (seen 1 (sections d) .body .elements) i []) 0) ≡ true)
-        × (indexGood (sections d .indices) (u32At (getD (seen 1 (sections d) .body .elements) i []) 4) ≡ true)
+        → (stringGood (sections d .strings) (nameOffset (getD (seen 1 (sections d) .body .elements) i [])) ≡ true)
+        × (indexGood (sections d .indices) (indexReference (getD (seen 1 (sections d) .body .elements) i []))
+        (rowCount (getD (seen 1 (sections d) .body .elements) i [])) ≡ true)
     unfolding seen bodyOf
     element-good i l = opened.element-good (g .edition) d (g .accepted) later i (rw total at l)
 

@@ -15,10 +15,10 @@ use Rattle.constants.specs.Edition.{sizeOf}
 use Rattle.wire.specs.Number.{u32At}
 use Rattle.wire.specs.declared.Verdict.the-variants.{Accepted}
 use Rattle.wire.proofs.Choices.{choose-eq}
-use Rattle.psv0_layout.specs.Field.{maskWords, sum}
+use Rattle.psv0_layout.specs.Field.{maskWords, sum, indexReference, rowCount}
 use Rattle.psv0_layout.specs.Handed.{Section, runtimeRecord, resourceRecords, stringTable, indexTable, elementRecords, masks, handed}
 use Rattle.psv0_layout.specs.Layout.{sections, seen, bodyOf, guideOf}
-use Rattle.psv0_layout.specs.Reference.{stringAt, stringGood, arrayAt, indexGood}
+use Rattle.psv0_layout.specs.Reference.{stringAt, stringGood, arrayAt}
 use Rattle.psv0_layout.specs.Shown.{Value, unset, number, view, stageUnion, ofElement, entryName, mask, setIf, maskAt, value, shownAt}
 use Rattle.psv0_layout.proofs.Positions.{part-part, rows-length, row-at, runtime-at, runtime-u32, guide-seen}
 use Rattle.psv0_layout.proofs.References.{string-inside}
@@ -33,7 +33,7 @@ use Rattle.psv0_layout.specs.declared.Field.the-variants.{Set}
 use Rattle.psv0_layout.specs.declared.ResourceAnswer.{ResourceAnswer}
 use Rattle.psv0_layout.specs.declared.ResourceRecord.{ResourceRecord}
 use Rattle.psv0_layout.specs.declared.Span.{Span}
-use Rattle.psv0.proofs.Accepted.{head, body, none-placed, short, long, resource-size, element-size}
+use Rattle.psv0.proofs.Accepted.{head, body, none-placed, short, long, resource-size, element-size, element-good}
 use Rattle.psv0_layout.proofs.Fields.{set-from, unset-before}
 use Rattle.psv0_layout.proofs.Answered.{info-shown, no-resource, resource-there, no-element, element-there, of-element, of-none}
 use Rattle.psv0_layout.proofs.Spans.{answers, no-answer, stretch-length, whole-shows, part-shows, string-shows, array-shows, from-one-shows}
@@ -205,11 +205,18 @@ module _ {d : List ℕ} {p : Places} (g : Reading d p) where
         string-shows d (sections d .strings) (p .strings) (p .«string_bytes») (b .strings) (b .stringsFit) o n
         (rw (t, b .strings) at (q .0)) (rw (t, b .strings) at (q .1))
 
-    pub array-read : (i : ℕ) → indexGood (sections d .indices) i ≡ true
-        → SpanShows d Accepted (arrayAt (sections d .indices) i) (acceptedSpan (p .indices + i * 4 + 4) (u32At d (p .indices + i * 4) * 4))
-    array-read i e =
-        let b = body g h in
-        rw (b .indices) at (array-shows d (p .indices) (p .«index_count») i (b .indicesFit) (rw (b .indices) e))
+  -- element i of the list is e, its index reference c, its rows r
+  pub array-read : (i : ℕ) → i < p .«element_count» → {e : List ℕ} (c r : ℕ)
+      → e ≡ getD (seen 1 (sections d) .body .elements) i [] → c ≡ indexReference e → r ≡ rowCount e
+      → SpanShows d Accepted
+      (arrayAt (sections d .indices) (indexReference (getD (seen 1 (sections d) .body .elements) i []))
+      (rowCount (getD (seen 1 (sections d) .body .elements) i [])))
+      (acceptedSpan (p .indices + c * 4) (r * 4))
+  array-read i l c r q qc qr =
+      let one = from-one i l in
+      let b = body g one in
+      rw (qc, qr, q)
+      (array-shows d (sections d .indices) (p .indices) (p .«index_count» * 4) (b .indices) (b .indicesFit) _ _ (element-good g one i l .1))
 
   -- ---- views
   module _ (i : ℕ) (s : Span) where

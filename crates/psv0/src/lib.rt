@@ -24,7 +24,7 @@ ghost use lib.ListN.{length, getD, take, drop};
 ghost use Rattle.constants.specs.Edition.{fileEdition};
 ghost use Rattle.wire.specs.Number.{u16At, u32At};
 ghost use Rattle.psv0_layout.specs.Field.{stage, hasPatchVectors, hasThreads};
-ghost use Rattle.psv0_layout.specs.Reference.{stringAt, stringGood, arrayAt, indexGood};
+ghost use Rattle.psv0_layout.specs.Reference.{stringAt, stringGood};
 ghost use Rattle.wire.specs.declared.Verdict.the-variants.{Accepted};
 ghost use Rattle.psv0_layout.specs.Handed.{handed};
 ghost use Rattle.psv0_layout.specs.Judged.{opened};
@@ -391,15 +391,6 @@ fn string_span(d: &[u8], p: Places, o: usize) -> Span
     accepted_span(start + o, len)
 }
 
-// The index array at a good reference.
-fn array_span(d: &[u8], p: Places, i: usize) -> Span
-    requires { ⌜ Reading (now d) p × (1 ≤ p .edition) × (indexGood (sections (now d) .indices) i ≡ true) ⌝ }
-    ensures { λ s. ⌜ SpanShows (now (d .entry)) Accepted (arrayAt (sections (now (d .entry)) .indices) i) s ⌝ }
-{
-    let at = p.indices + i * 4;
-    accepted_span(at + 4, wire::u32_at(d, at) as usize * 4)
-}
-
 fn element_string(d: &[u8], p: Places, i: usize) -> Span
     requires { ⌜ Reading (now d) p ⌝ }
     ensures { λ s. ⌜ SpanAnswers (now (d .entry)) (shownAt (p .edition) (now (d .entry)) (elementString i)) s ⌝ }
@@ -417,7 +408,10 @@ fn element_array(d: &[u8], p: Places, i: usize) -> Span
     if p.element_count <= i {
         return refused_span(26, 0);
     }
-    array_span(d, p, wire::u32_at(element_row(d, p, i), 4) as usize)
+    let indices = p.indices;
+    let e = element_row(d, p, i);
+    let first = indices + wire::u32_at(e, 4) as usize * 4;
+    accepted_span(first, wire::byte_at(e, 8) as usize * 4)
 }
 
 fn entry_name(d: &[u8], p: Places) -> Span

@@ -14,13 +14,13 @@ use Rattle.wire.specs.Verdict.{_then_, check, when, from, each}
 use Rattle.wire.specs.declared.Verdict.{Verdict}
 use Rattle.wire.specs.declared.Verdict.the-variants.{Accepted, Refused}
 use Rattle.wire.proofs.Numbers.{u32-take, u32-drop}
-use Rattle.psv0_layout.specs.Field.{stage, usesViewId, outputVectors}
+use Rattle.psv0_layout.specs.Field.{stage, usesViewId, outputVectors, nameOffset, indexReference, rowCount}
 use Rattle.psv0_layout.specs.Judged.{fieldsJudged, elementJudged, elementsJudged}
 use Rattle.psv0_layout.specs.Layout.{Body, rows}
 use Rattle.psv0_layout.specs.Position.{NoZero, UpToLastZero, Judging}
-use Rattle.psv0_layout.specs.Reference.{stringGood, indexGood, indexTotal}
-use Rattle.psv0_layout.proofs.Positions.{rows-length, rows-at}
-use Rattle.psv0_layout.proofs.References.{noZero-back, lastZero-found, string-good, index-in, stop-22, stop-23, go-on, judged-all}
+use Rattle.psv0_layout.specs.Reference.{stringGood}
+use Rattle.psv0_layout.proofs.Positions.{part-byte, part-u32, rows-length, rows-at}
+use Rattle.psv0_layout.proofs.References.{noZero-back, lastZero-found, string-good, stop-22, stop-23, go-on, judged-all}
 use Rattle.psv0_layout.specs.Given.{tables, sectionsJudged}
 
 -- ---- 15 to 17: s is the stage, u UsesViewID, v the output vectors of streams 1 to 3
@@ -62,15 +62,11 @@ module _ (t : List ℕ) (i : ℕ) (p : 0 < i) (f : NoZero t i (length t)) where
   pub zero-sought : (getD t (i - 1) 0 ≡ 0 → ⊥) → NoZero t (i - 1) (length t)
   zero-sought e = noZero-back t (i - 1) (length t) before e
 
--- ---- an index reference, with c the number at i
-pub index-is : (x : List ℕ) (i c : ℕ) → i < indexTotal x → c ≡ u32At x (i * 4) → leb c (indexTotal x - i - 1) ≡ indexGood x i
-index-is x i c h e = rw e (sym (index-in x i h))
-
--- ---- 22 and 23: element i of n, s bytes apart in e; its references are a and c
+-- ---- 22 and 23: element i of n, s bytes apart in e, with x numbers in the index table; its references are a and, for r rows, c
 pub stays-inside : (i n s l : ℕ) → i < n → n * s ≤ l → i * s + s ≤ l
 stays-inside i n s l h f = omega (arith, mul-le-mul-right s h, suc-mul i s)
 
-module _ (m n s : ℕ) (x e : List ℕ) (b : Body) (j : Judging b m x (rows 16 n s e)) where
+module _ (m x n s : ℕ) (e : List ℕ) (b : Body) (j : Judging b m x (rows 16 n s e)) where
   count : length (b .elements) ≡ n
   count = rw (j .elements) (rows-length 16 n s e)
 
@@ -80,26 +76,29 @@ module _ (m n s : ℕ) (x e : List ℕ) (b : Body) (j : Judging b m x (rows 16 n
     inside = rw count h
 
     field : (o : ℕ) → o + 4 ≤ 16 → u32At (getD (b .elements) i []) o ≡ u32At e (at + o)
-    field o k = rw (j .elements, rows-at 16 n s e i h, u32-take 16 (drop (i * s) e) o k, u32-drop, ← p)
+    field o k = rw (j .elements, rows-at 16 n s e i h, part-u32 e (i * s) 16 o k, ← p)
 
-    name : u32At (getD (b .elements) i []) 0 ≡ a
+    name : nameOffset (getD (b .elements) i []) ≡ a
     name = field 0 (omega arith) ∙ rw native.Mathlib.Nat.add-zero (sym ea)
 
     pub name-22 : m ≤ a → Refused 22 i ≡ elementsJudged b
-    name-22 l = sym (stop-22 b i a _ so-far name refl inside (string-good (b .strings) m a (j .strings) ∙ le-ltb _ _ l))
+    name-22 l = sym (stop-22 b i a _ _ so-far name refl refl inside (string-good (b .strings) m a (j .strings) ∙ le-ltb _ _ l))
 
-    module _ (l : a < m) (c : ℕ) (ec : c ≡ u32At e (at + 4)) where
-      index : u32At (getD (b .elements) i []) 4 ≡ c
+    module _ (l : a < m) (c r : ℕ) (ec : c ≡ u32At e (at + 4)) (er : r ≡ getD e (at + 8) 0) where
+      index : indexReference (getD (b .elements) i []) ≡ c
       index = field 4 (omega arith) ∙ sym ec
+
+      count-of : rowCount (getD (b .elements) i []) ≡ r
+      count-of = rw (j .elements, rows-at 16 n s e i h, part-byte e (i * s) 16 8 (omega arith), ← p) (sym er)
 
       good : stringGood (b .strings) a ≡ true
       good = string-good (b .strings) m a (j .strings) ∙ lt-ltb _ _ l
 
-      pub index-23 : indexGood x c ≡ false → Refused 23 i ≡ elementsJudged b
-      index-23 q = sym (stop-23 b i a c so-far name index inside good (rw (j .indices) q))
+      pub index-23 : x < c + r → Refused 23 i ≡ elementsJudged b
+      index-23 q = sym (stop-23 b i a c r so-far name index count-of inside good (rw (j .indices) q))
 
-      pub element-passes : indexGood x c ≡ true → each (elementJudged (b .strings) (b .indices) (b .elements)) (i + 1) ≡ Accepted
-      element-passes q = go-on b i a c so-far name index good (rw (j .indices) q)
+      pub element-passes : c + r ≤ x → each (elementJudged (b .strings) (b .indices) (b .elements)) (i + 1) ≡ Accepted
+      element-passes q = go-on b i a c r so-far name index count-of good (rw (j .indices) q)
 
   pub elements-pass : (i : ℕ) → n ≡ i → each (elementJudged (b .strings) (b .indices) (b .elements)) i ≡ Accepted → Accepted ≡ elementsJudged b
   elements-pass i q f = sym (judged-all b i (count ∙ q) f)
@@ -130,7 +129,7 @@ module _ (er : ℕ) (r t x e : List ℕ) where
     given-fields q = rw (le-leb 1 er (omega arith), ← ef, q)
 
     module _ (a : f ≡ Accepted) (m : ℕ) (g : UpToLastZero t m) (v : Verdict)
-        (ev : (b : Body) → Judging b m x (rows 16 (length e / 16) 16 e) → v ≡ elementsJudged b) where
+        (ev : (b : Body) → Judging b m (length x / 4) (rows 16 (length e / 16) 16 e) → v ≡ elementsJudged b) where
       told : v ≡ elementsJudged (tables t x e)
       told = ev (tables t x e) (record { strings = g; indices = refl; elements = refl })
 

@@ -16,7 +16,7 @@ use Rattle.wire.specs.Verdict.{_then_, check, from}
 use Rattle.wire.specs.declared.Verdict.the-variants.{Accepted}
 use Rattle.wire.proofs.Choices.{both}
 use Rattle.wire.proofs.Verdicts.{then-accepted, check-then, check-accepted, from-accepted, each-accepted}
-use Rattle.psv0_layout.specs.Field.{elementTotal, maskBytes}
+use Rattle.psv0_layout.specs.Field.{elementTotal, maskBytes, nameOffset, indexReference, rowCount}
 use Rattle.psv0_layout.specs.Judged.{headJudged, fieldsJudged, bodyFits, elementJudged, elementsJudged, entryJudged, judgedAt, opened}
 use Rattle.psv0_layout.specs.Layout.{recordsFit, guideOf, after2, sections, seen, editionRead}
 use Rattle.psv0_layout.specs.Position.{resourcesStart, stringsStart}
@@ -118,8 +118,9 @@ module _ (k : ℕ) (d : List ℕ) (e : opened k d ≡ Accepted) where
 
     -- both references of element i are good
     pub element-good : (i : ℕ) → i < elementTotal (guideOf d)
-        → (stringGood (seen 1 (sections d) .body .strings) (u32At (getD (seen 1 (sections d) .body .elements) i []) 0) ≡ true)
-        × (indexGood (seen 1 (sections d) .body .indices) (u32At (getD (seen 1 (sections d) .body .elements) i []) 4) ≡ true)
+        → (stringGood (seen 1 (sections d) .body .strings) (nameOffset (getD (seen 1 (sections d) .body .elements) i [])) ≡ true)
+        × (indexGood (seen 1 (sections d) .body .indices) (indexReference (getD (seen 1 (sections d) .body .elements) i []))
+        (rowCount (getD (seen 1 (sections d) .body .elements) i [])) ≡ true)
     unfolding elementsJudged elementJudged
     element-good i l =
         let inside : i < length (seen 1 (sections d) .body .elements) = rw (elements-length d) l in

@@ -17,10 +17,11 @@ use Rattle.wire.specs.Verdict.{_then_, check, each}
 use Rattle.wire.specs.declared.Verdict.the-variants.{Accepted, Refused}
 use Rattle.wire.proofs.Choices.{both}
 use Rattle.wire.proofs.Verdicts.{each-stop, each-next}
+use Rattle.psv0_layout.specs.Field.{nameOffset, indexReference, rowCount}
 use Rattle.psv0_layout.specs.Judged.{elementJudged, elementsJudged}
 use Rattle.psv0_layout.specs.Layout.{Body}
 use Rattle.psv0_layout.specs.Position.{NoZero, UpToLastZero}
-use Rattle.psv0_layout.specs.Reference.{hasZero, untilZero, stringGood, stringAt, indexTotal, indexAt, indexGood, arrayAt}
+use Rattle.psv0_layout.specs.Reference.{hasZero, untilZero, stringGood, stringAt, indexTotal, indexGood}
 use Rattle.psv0_layout.proofs.Positions.{part-u32, part-part}
 
 -- ---- zero bytes in a list
@@ -124,41 +125,16 @@ unfolding stringGood
 string-inside t o e = ltb-true o (length t) (both (ltb o (length t)) _ e .0)
 
 -- ---- index references
-module _ (x : List ℕ) (i : ℕ) where
-  pub index-out : indexTotal x ≤ i → indexGood x i ≡ false
-  unfolding indexGood
-  index-out h = simp (le-ltb _ _ h)
-
-  -- by a test that does not add to the number in the file
-  pub index-in : i < indexTotal x → indexGood x i ≡ leb (indexAt x i) (indexTotal x - i - 1)
-  unfolding indexGood
-  index-in h = rw (lt-ltb _ _ h) (go (indexAt x i) (leb (indexAt x i) (indexTotal x - i - 1)) refl)
-    where
-      go : (c : ℕ) (b : Bool) → leb c (indexTotal x - i - 1) ≡ b → leb (i + 1 + c) (indexTotal x) ≡ b
-      go c true q = le-leb (i + 1 + c) (indexTotal x) (omega (arith, leb-true c (indexTotal x - i - 1) q))
-      go c false q = lt-leb (i + 1 + c) (indexTotal x) (omega (arith, leb-false c (indexTotal x - i - 1) q))
-
--- a good reference, and its array, lie inside
-pub index-inside : (x : List ℕ) (i : ℕ) → indexGood x i ≡ true → (i < indexTotal x) × (i + 1 + indexAt x i ≤ indexTotal x)
+-- the array of a good reference lies inside
+pub index-inside : (x : List ℕ) (i r : ℕ) → indexGood x i r ≡ true → i + r ≤ indexTotal x
 unfolding indexGood
-index-inside x i e =
-    let (a, b) = both (ltb i (indexTotal x)) _ e in
-    (ltb-true i (indexTotal x) a, leb-true (i + 1 + indexAt x i) (indexTotal x) b)
+index-inside x i r e = leb-true (i + r) (indexTotal x) e
 
--- the index table is n numbers from position p on
-module _ (d : List ℕ) (p n i : ℕ) (h : i < n) where
-  pub index-at : indexAt (take (n * 4) (drop p d)) i ≡ u32At d (p + i * 4)
-  index-at = part-u32 d p (n * 4) (i * 4) (omega arith)
-
-  pub array-at : i + 1 + u32At d (p + i * 4) ≤ n
-      → arrayAt (take (n * 4) (drop p d)) i ≡ take (u32At d (p + i * 4) * 4) (drop (p + (i + 1) * 4) d)
-  unfolding arrayAt
-  array-at f = rw index-at (part-part d p (n * 4) ((i + 1) * 4) (u32At d (p + i * 4) * 4) (omega arith))
-
--- ---- the elements, one after the other: element i, whose references are a and c
-module _ (b : Body) (i a c : ℕ)
+-- ---- the elements, one after the other: element i, whose references are a and, for r rows, c
+module _ (b : Body) (i a c r : ℕ)
     (so-far : each (elementJudged (b .strings) (b .indices) (b .elements)) i ≡ Accepted)
-    (ea : u32At (getD (b .elements) i []) 0 ≡ a) (ec : u32At (getD (b .elements) i []) 4 ≡ c) where
+    (ea : nameOffset (getD (b .elements) i []) ≡ a) (ec : indexReference (getD (b .elements) i []) ≡ c)
+    (er : rowCount (getD (b .elements) i []) ≡ r) where
   stop : (n : ℕ) → i < length (b .elements) → elementJudged (b .strings) (b .indices) (b .elements) i ≡ Refused n i
       → elementsJudged b ≡ Refused n i
   unfolding elementsJudged
@@ -167,13 +143,14 @@ module _ (b : Body) (i a c : ℕ)
   pub stop-22 : i < length (b .elements) → stringGood (b .strings) a ≡ false → elementsJudged b ≡ Refused 22 i
   stop-22 h q = stop 22 h (unfold elementJudged check _then_ in simp (ea, q))
 
-  pub stop-23 : i < length (b .elements) → stringGood (b .strings) a ≡ true → indexGood (b .indices) c ≡ false
+  pub stop-23 : i < length (b .elements) → stringGood (b .strings) a ≡ true → indexTotal (b .indices) < c + r
       → elementsJudged b ≡ Refused 23 i
-  stop-23 h q r = stop 23 h (unfold elementJudged check _then_ in simp (ea, q, ec, r))
+  stop-23 h q l = stop 23 h (unfold elementJudged check _then_ indexGood in simp (ea, q, ec, er, lt-leb _ _ l))
 
-  pub go-on : stringGood (b .strings) a ≡ true → indexGood (b .indices) c ≡ true
+  pub go-on : stringGood (b .strings) a ≡ true → c + r ≤ indexTotal (b .indices)
       → each (elementJudged (b .strings) (b .indices) (b .elements)) (i + 1) ≡ Accepted
-  go-on q r = rw (add-one i) (each-next _ i so-far (unfold elementJudged check _then_ in simp (ea, q, ec, r)))
+  go-on q l =
+      rw (add-one i) (each-next _ i so-far (unfold elementJudged check _then_ indexGood in simp (ea, q, ec, er, le-leb _ _ l)))
 
 pub judged-all : (b : Body) (i : ℕ) → length (b .elements) ≡ i
     → each (elementJudged (b .strings) (b .indices) (b .elements)) i ≡ Accepted → elementsJudged b ≡ Accepted

@@ -17,7 +17,7 @@ use Rattle.psv0_layout.specs.Handed.{fromOne}
 use Rattle.psv0_layout.specs.Reference.{stringAt, indexGood, arrayAt}
 use Rattle.psv0_layout.specs.Shown.{Value, unset, view, queried}
 use Rattle.psv0_layout.proofs.Positions.{part-part}
-use Rattle.psv0_layout.proofs.References.{index-inside, index-at, array-at}
+use Rattle.psv0_layout.proofs.References.{index-inside}
 use Rattle.psv0_layout.specs.Answers.{SpanShows, refusedSpan}
 use Rattle.psv0_layout.specs.Parts.{acceptedSpan, SpanAnswers}
 use Rattle.psv0_layout.specs.declared.Span.{Span}
@@ -59,18 +59,10 @@ module _ (d : List ℕ) where
     pub string-shows : (o m : ℕ) → o + m ≤ length t → stringAt t o ≡ take m (drop o t) → SpanShows d Accepted (stringAt t o) (acceptedSpan (at + o) m)
     string-shows o m h q = let l = stretch-length in rw q (part-shows o m (omega arith))
 
--- the index table is n numbers from a position on
-pub array-shows : (d : List ℕ) (at n i : ℕ) → at + n * 4 ≤ length d → indexGood (take (n * 4) (drop at d)) i ≡ true
-    → SpanShows d Accepted (arrayAt (take (n * 4) (drop at d)) i) (acceptedSpan (at + i * 4 + 4) (u32At d (at + i * 4) * 4))
-array-shows d at n i fits g =
-    let x = take (n * 4) (drop at d) in
-    let good = index-inside x i g in
-    let long = stretch-length d x at (n * 4) refl fits in
-    let h : i < n = omega arith in
-    let count = index-at d at n i h in
-    let room : i + 1 + u32At d (at + i * 4) ≤ n = omega arith in
-    let start : at + (i + 1) * 4 ≡ at + i * 4 + 4 = omega arith in
-    rw (← start) (whole-shows d (arrayAt x i) (at + (i + 1) * 4) (u32At d (at + i * 4) * 4) (sym (array-at d at n i h room)) (omega arith))
+    -- t is the index table, and i a good reference for r rows
+    pub array-shows : (i r : ℕ) → indexGood t i r ≡ true → SpanShows d Accepted (arrayAt t i r) (acceptedSpan (at + i * 4) (r * 4))
+    unfolding arrayAt
+    array-shows i r g = let l = stretch-length in part-shows (i * 4) (r * 4) (omega (arith, index-inside t i r g))
 
 -- ---- a section that is unset at edition read 0
 pub from-one-shows : (d t : List ℕ) (er at n : ℕ)

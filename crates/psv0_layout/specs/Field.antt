@@ -1,10 +1,11 @@
--- Fields of the runtime record r, and the masks' sizes, which follow from them.
+-- Fields of the runtime record r, and the masks' sizes, which follow from them; and the fields of an element record that checks go by.
 use mathlib.Core.Bool.{Bool, _&&_, _||_}
 use mathlib.Core.List.{List, [], _∷_}
 use Prim.Native.Nat.{ℕ, _+_, _*_, _/_}
 use lib.Dec.{eqb}
 use lib.ListN.{getD}
 use Rattle.wire.specs.Choice.{choose}
+use Rattle.wire.specs.Number.{u32At}
 
 -- "Edition 1: 24 stage, 25 UsesViewID, 26 union, 28 to 30 input, output, patch/primitive element counts, 31 input vectors, 32 to 35
 -- output vectors of streams 0 to 3"
@@ -72,3 +73,13 @@ sum (x ∷ xs) = x + sum xs
 -- "Masks in 4-byte words"
 abbrev pub maskBytes : List ℕ → ℕ
 maskBytes r = sum (maskWords r) * 4
+
+-- "Element record: name offset (4), index reference (4), rows, .."; e is the record
+abbrev pub nameOffset : List ℕ → ℕ
+nameOffset e = u32At e 0
+
+abbrev pub indexReference : List ℕ → ℕ
+indexReference e = u32At e 4
+
+abbrev pub rowCount : List ℕ → ℕ
+rowCount e = getD e 8 0

@@ -7,7 +7,7 @@ use lib.ListN.{length, getD, drop}
 use Rattle.wire.specs.Number.{u32At}
 use Rattle.wire.specs.Verdict.{_then_, check, from, each}
 use Rattle.wire.specs.declared.Verdict.{Verdict}
-use Rattle.psv0_layout.specs.Field.{stage, usesViewId, outputVectors, elementTotal, maskBytes}
+use Rattle.psv0_layout.specs.Field.{stage, usesViewId, outputVectors, elementTotal, maskBytes, nameOffset, indexReference, rowCount}
 use Rattle.psv0_layout.specs.Layout.{afterCounted, countedFits, afterRecords, recordsFit, sections, after1, after2, guideOf, resourceCountOf, Body, Seen, seen, editionRead}
 use Rattle.psv0_layout.specs.Reference.{stringGood, indexGood}
 
@@ -39,8 +39,8 @@ bodyFits l e m =
 -- and the index table x; the place is "that element, from 0 over all E"
 unfoldable pub elementJudged : List ℕ → List ℕ → List (List ℕ) → ℕ → Verdict
 elementJudged t x es i =
-    check (stringGood t (u32At (getD es i []) 0)) 22 i
-    then check (indexGood x (u32At (getD es i []) 4)) 23 i
+    check (stringGood t (nameOffset (getD es i []))) 22 i
+    then check (indexGood x (indexReference (getD es i [])) (rowCount (getD es i []))) 23 i
 
 unfoldable pub elementsJudged : Body → Verdict
 elementsJudged b = each (elementJudged (b .strings) (b .indices) (b .elements)) (length (b .elements))

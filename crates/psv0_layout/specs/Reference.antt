@@ -4,7 +4,6 @@ use mathlib.Core.List.{List, [], _∷_}
 use Prim.Native.Nat.{ℕ, zero, suc, _+_, _*_, _/_}
 use lib.Dec.{ltb, leb}
 use lib.ListN.{length, take, drop}
-use Rattle.wire.specs.Number.{u32At}
 
 -- a zero byte stands in the list
 unfoldable pub hasZero : List ℕ → Bool
@@ -26,17 +25,15 @@ stringGood t o = ltb o (length t) && hasZero (drop o t)
 unfoldable pub stringAt : List ℕ → ℕ → List ℕ
 stringAt t o = untilZero (drop o t)
 
--- the numbers of the index table x: N, and the one at i
+-- N, how many numbers the index table x has
 abbrev pub indexTotal : List ℕ → ℕ
 indexTotal x = length x / 4
 
-abbrev pub indexAt : List ℕ → ℕ → ℕ
-indexAt x i = u32At x (i * 4)
+-- document 02, Ask 2: "the element's rows field is the count and the reference points at the first index. So: good when i plus rows is
+-- at most N". For r rows; "rows 0 gives an empty array and i may equal N"
+unfoldable pub indexGood : List ℕ → ℕ → ℕ → Bool
+indexGood x i r = leb (i + r) (indexTotal x)
 
--- "An index reference i is good when i < N and, with c the number at i, i + 1 + c is at most N"
-unfoldable pub indexGood : List ℕ → ℕ → Bool
-indexGood x i = ltb i (indexTotal x) && leb (i + 1 + indexAt x i) (indexTotal x)
-
--- "the array is the c numbers after it", as bytes
-unfoldable pub arrayAt : List ℕ → ℕ → List ℕ
-arrayAt x i = take (indexAt x i * 4) (drop ((i + 1) * 4) x)
+-- the array: r numbers from i on, as bytes
+unfoldable pub arrayAt : List ℕ → ℕ → ℕ → List ℕ
+arrayAt x i r = take (r * 4) (drop (i * 4) x)

@@ -9,7 +9,7 @@ use Rattle.wire.specs.Number.{u16At, u32At}
 use Rattle.wire.specs.Verdict.{_then_, check}
 use Rattle.wire.specs.declared.Verdict.{Verdict}
 use Rattle.wire.specs.declared.Verdict.the-variants.{Accepted, Refused}
-use Rattle.psv0_layout.specs.Field.{stage, usesViewId, outputVectors, inputVectors, hasPatchVectors, hasThreads, maskWords, sum}
+use Rattle.psv0_layout.specs.Field.{stage, usesViewId, outputVectors, inputVectors, hasPatchVectors, hasThreads, maskWords, sum, nameOffset, indexReference, rowCount}
 use Rattle.psv0_layout.specs.Judged.{opened}
 use Rattle.psv0_layout.specs.Layout.{Body, Seen, seen, sections, editionRead}
 use Rattle.psv0_layout.specs.Reference.{stringAt, arrayAt, indexTotal}
@@ -73,9 +73,9 @@ ofResource rs i f = setIf (ltb f 6 && leb (f * 4 + 4) (length (getD rs i []))) (
 -- allocated (6), semantic kind, component type, interpolation, one byte with dynamic mask (0 to 3) and stream (4, 5), reserved"
 abbrev pub elementFields : List ℕ → List ℕ
 elementFields e =
-    u32At e 0
-    ∷ u32At e 4
-    ∷ getD e 8 0
+    nameOffset e
+    ∷ indexReference e
+    ∷ rowCount e
     ∷ getD e 9 0
     ∷ getD e 10 0 % 16
     ∷ getD e 10 0 / 16 % 4
@@ -115,8 +115,9 @@ value (threads i) v = setIf (ltb i 3 && hasThreads (v .runtime)) (number (u32At 
 value entryNameOffset v = number (u32At (v .runtime) 48)
 value (resourceField i f) v = ofResource (v .resources) i f
 value (elementField i f) v = ofElement (v .body) i (setIf (ltb f 13) (number (getD (elementFields (getD (v .body .elements) i [])) f 0)))
-value (elementString i) v = ofElement (v .body) i (view (stringAt (v .body .strings) (u32At (getD (v .body .elements) i []) 0)))
-value (elementArray i) v = ofElement (v .body) i (view (arrayAt (v .body .indices) (u32At (getD (v .body .elements) i []) 4)))
+value (elementString i) v = ofElement (v .body) i (view (stringAt (v .body .strings) (nameOffset (getD (v .body .elements) i []))))
+value (elementArray i) v =
+    ofElement (v .body) i (view (arrayAt (v .body .indices) (indexReference (getD (v .body .elements) i [])) (rowCount (getD (v .body .elements) i []))))
 value (mask m) v = setIf (ltb m 11) (view (maskAt (v .runtime) (v .body .masks) m))
 value entryName v = view (stringAt (v .body .strings) (u32At (v .runtime) 48))
 value resourceCount v = number (length (v .resources))

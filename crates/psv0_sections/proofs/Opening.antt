@@ -23,6 +23,7 @@ use Rattle.psv0_layout.specs.Reference.{stringGood}
 use Rattle.psv0_layout.proofs.Opened.{head-fits, head-accepted, body-accepted}
 use Rattle.psv0_layout.proofs.Positions.{runtime-at, runtime-u32, guide-seen}
 use Rattle.psv0_layout.proofs.References.{string-good}
+use Rattle.psv0_layout.proofs.Spans.{stretch-length}
 use Rattle.psv0_sections.specs.Places.{noPlaces, headPlaces, bodyPlaces, placesOf, locatedOf, stretch, BodyPlaced, Placed}
 use Rattle.psv0_sections.specs.Steps.{headIf, headOf, restIf, restOf, found, HeadRead, BodyAsked}
 use Rattle.psv0_sections.specs.declared.Cursor.{Cursor}
@@ -41,15 +42,14 @@ module _ (d : List ℕ) (p : Places) (b : BodyPlaced d p) (m : ℕ)
   strings-end : UpToLastZero (sections d .strings) m
   strings-end = rw (part d (p .strings) (p .«string_bytes»), b .strings) at u
 
-  pub judging : Judging (seen 1 (sections d) .body) m
-      (take (p .indices + p .«index_count» * 4 - p .indices) (drop (p .indices) d))
+  pub judging : Judging (seen 1 (sections d) .body) m (p .«index_count»)
       (rows 16 (p .«element_count») (p .«element_size»)
       (take (p .elements + p .«element_count» * p .«element_size» - p .elements) (drop (p .elements) d)))
   unfolding seen bodyOf
   judging =
       record {
         strings = strings-end;
-        indices = sym (part d (p .indices) (p .«index_count» * 4) ∙ b .indices);
+        indices = let long = stretch-length d (sections d .indices) (p .indices) (p .«index_count» * 4) (b .indices) (b .indicesFit) in omega arith;
         elements = rw (part d (p .elements) (p .«element_count» * p .«element_size»), b .elements, b .count, b .stride);
       }
 

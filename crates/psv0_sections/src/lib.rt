@@ -10,7 +10,6 @@ ghost use Rattle.psv0_layout.specs.Field.{words, wordsIf, elementTotal, maskWor
 ghost use Rattle.psv0_layout.specs.Judged.{fieldsJudged, elementsJudged, entryJudged, judgedAt};
 ghost use Rattle.psv0_layout.specs.Layout.{Body, rows, sections, seen};
 ghost use Rattle.psv0_layout.specs.Position.{nextCounted, UpToLastZero, Judging};
-ghost use Rattle.psv0_layout.specs.Reference.{indexGood};
 ghost use Rattle.psv0_layout.specs.Given.{sectionsJudged};
 ghost use Rattle.psv0_sections.specs.Places.{headOnly, noPlaces, placesOf, locatedOf, BodyPlaced};
 ghost use Rattle.psv0_sections.specs.Steps.{stepTo, smallStep, tableAt, headOf, restOf, found, RuntimeRead, HeadRead, BodyAsked};
@@ -399,21 +398,10 @@ fn string_end(t: &[u8]) -> usize
     0
 }
 
-fn index_good(x: &[u8], i: usize) -> bool
-    ensures { λ r. ⌜ r ≡ indexGood (now (x .entry)) i ⌝ }
-{
-    let n = x.len() / 4;
-    if n <= i {
-        return false;
-    }
-    let c = wire::u32_at(x, i * 4) as usize;
-    c <= n - i - 1
-}
-
-// 22 and 23, element by element.
-fn judge_elements(end: usize, x: &[u8], e: &[u8], stride: usize, count: usize) -> Verdict
+// 22 and 23, element by element. Of the index table its count of numbers decides.
+fn judge_elements(end: usize, indices: usize, e: &[u8], stride: usize, count: usize) -> Verdict
     requires { ⌜ count * stride ≤ length (now e) ⌝ }
-    ensures { λ r. ⌜ ((b : Body) → Judging b end (now (x .entry)) (rows 16 count stride (now (e .entry))) → r ≡ elementsJudged b) ⌝ }
+    ensures { λ r. ⌜ ((b : Body) → Judging b end indices (rows 16 count stride (now (e .entry))) → r ≡ elementsJudged b) ⌝ }
 {
     let mut i = 0;
     let mut at = 0;
@@ -421,7 +409,7 @@ fn judge_elements(end: usize, x: &[u8], e: &[u8], stride: usize, count: usize) -
         if end <= wire::u32_at(e, at) as usize {
             return Verdict::Refused(22, i);
         }
-        if !index_good(x, wire::u32_at(e, at + 4) as usize) {
+        if indices < wire::u32_at(e, at + 4) as usize + wire::byte_at(e, at + 8) as usize {
             return Verdict::Refused(23, i);
         }
         i += 1;
@@ -450,8 +438,6 @@ fn judge_references(d: &[u8], p: Places) -> Verdict
 {
     let strings = p.strings;
     let strings_end = strings + p.string_bytes;
-    let indices = p.indices;
-    let indices_end = indices + p.index_count * 4;
     let elements = p.elements;
     let count = p.element_count;
     let stride = p.element_size;
@@ -459,7 +445,7 @@ fn judge_references(d: &[u8], p: Places) -> Verdict
     let end = string_end(&d[strings..strings_end]);
     match judge_elements(
         end,
-        &d[indices..indices_end],
+        p.index_count,
         &d[elements..elements_end],
         stride,
         count,
@@ -481,7 +467,7 @@ pub fn judge_given(edition: usize, r: &[u8], t: &[u8], x: &[u8], e: &[u8]) -> Ve
         Verdict::Refused(n, q) => Verdict::Refused(n, q),
         Verdict::Accepted => {
             let end = string_end(t);
-            match judge_elements(end, x, e, 16, e.len() / 16) {
+            match judge_elements(end, x.len() / 4, e, 16, e.len() / 16) {
                 Verdict::Refused(n, q) => Verdict::Refused(n, q),
                 Verdict::Accepted => judge_entry(r, 48, edition, end),
             }

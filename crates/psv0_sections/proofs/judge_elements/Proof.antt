@@ -1,4 +1,4 @@
-use Prim.Native.Nat.{_≤_, _-_, _*_}
+use Prim.Native.Nat.{_≤_, _+_, _-_, _*_}
 use mathlib.Core.Path.{_≡_, refl, sym, _∙_}
 use native.Mathlib.Omega.{arith}
 use native.Mathlib.Numerals.{add-one}
@@ -16,16 +16,23 @@ use Rattle.psv0_sections.proofs.judge_elements.Statement.{statement}
 use Rattle.psv0_sections.proofs.judge_elements.Tie as tie
 
 abbrev Inv-loop : tie.InvT-loop
-Inv-loop end x e stride count i₀ at₀ i at =
+Inv-loop end indices e stride count i₀ at₀ i at =
     (i ≤ count)
     × (at ≡ i * stride)
-    × ((b : Body) → Judging b end x (rows 16 count stride e) → each (elementJudged (b .strings) (b .indices) (b .elements)) i ≡ Accepted)
+    × ((b : Body) → Judging b end indices (rows 16 count stride e) → each (elementJudged (b .strings) (b .indices) (b .elements)) i ≡ Accepted)
 
 abbrev μ-loop : tie.MeasureT-loop
-μ-loop end x e stride count i₀ at₀ i at = count - i
+μ-loop end indices e stride count i₀ at₀ i at = count - i
 
 loop-holds : tie.Need-loop-holds Inv-loop μ-loop
 loop-holds c = (search needs, sym (zero-mul _), λ b j. unfold each in refl)
+
+-- element i ends inside
+inside : (n : tie.In-loop Inv-loop μ-loop)
+    → let a = n .before .before .before .args in n .before .loop .i * a .stride + a .stride ≤ length (a .e .now)
+inside n =
+    let s = n .before .before .before in
+    stays-inside (n .before .loop .i) (s .args .count) (s .args .stride) (length (s .args .e .now)) (n .loop-test .taken) (s .pre)
 
 returns : tie.Need-returns Inv-loop μ-loop
 returns c =
@@ -34,44 +41,41 @@ returns c =
     λ b j. name-22 _ _ _ _ _ b j _ _ _ (n .loop-test .taken) (l .inv .1) (c .before .u32-at .ensures) (l .inv .2 b j) (c .if1 .taken)
 
 add-u32-at : tie.Need-add-u32-at Inv-loop μ-loop
-add-u32-at c =
-    let n = c .before .before in
-    let l = n .before .loop in
-    let s = n .before .before .before .before in
-    omega (arith, stays-inside (l .i) (s .args .count) (s .args .stride) (length (s .args .e .now)) (n .loop-test .taken) (s .pre))
+add-u32-at c = omega (arith, inside (c .before .before))
+
+add-byte-at : tie.Need-add-byte-at Inv-loop μ-loop
+add-byte-at c = omega (arith, inside (c .before .before .before))
 
 returns-2 : tie.Need-returns-2 Inv-loop μ-loop
 returns-2 c =
-    let t = c .before .before .before in
+    let v = c .before .before in
+    let t = v .before in
     let n = t .before .before in
     let l = n .before .loop in
     λ b j.
-    index-23 _ _ _ _ _ b j _ _ _ (n .loop-test .taken) (l .inv .1) (t .before .u32-at .ensures) (l .inv .2 b j) (t .if1 .left) _
-    (c .before .before .u32-at2 .ensures) (sym (c .before .index-good .ensures) ∙ not-true _ (c .if2 .taken))
+    index-23 _ _ _ _ _ b j _ _ _ (n .loop-test .taken) (l .inv .1) (t .before .u32-at .ensures) (l .inv .2 b j) (t .if1 .left) _ _
+    (v .u32-at2 .ensures) (c .before .byte-at .ensures) (c .if2 .taken)
 
 add-at : tie.Need-add-at Inv-loop μ-loop
-add-at c =
-    let n = c .before .before .before .before .before in
-    let l = n .before .loop in
-    let s = n .before .before .before .before in
-    omega (arith, stays-inside (l .i) (s .args .count) (s .args .stride) (length (s .args .e .now)) (n .loop-test .taken) (s .pre))
+add-at c = omega (arith, inside (c .before .before .before .before .before))
 
 loop-again : tie.Need-loop-again Inv-loop μ-loop
 loop-again c =
-    let t = c .before .before .before in
+    let v = c .before .before in
+    let t = v .before in
     let n = t .before .before in
     let l = n .before .loop in (
       omega (arith, n .loop-test .taken),
       simp (add-one, suc-mul, l .inv .1),
       λ b j.
-          element-passes _ _ _ _ _ b j _ _ _ (n .loop-test .taken) (l .inv .1) (t .before .u32-at .ensures) (l .inv .2 b j) (t .if1 .left) _
-          (c .before .before .u32-at2 .ensures) (sym (c .before .index-good .ensures) ∙ not-false _ (c .if2 .left)),
+          element-passes _ _ _ _ _ b j _ _ _ (n .loop-test .taken) (l .inv .1) (t .before .u32-at .ensures) (l .inv .2 b j) (t .if1 .left) _ _
+          (v .u32-at2 .ensures) (c .before .byte-at .ensures) (c .if2 .left),
     )
 
 returns-3 : tie.Need-returns-3 Inv-loop μ-loop
 returns-3 c =
     let l = c .before .loop in
-    let s = c .before .before .before .before in
+    let s = c .before .before .before in
     let q : s .args .count ≡ l .i = omega (arith, l .inv .0, c .loop-test .left) in
     λ b j. elements-pass _ _ _ _ _ b j _ q (l .inv .2 b j)
 
@@ -88,7 +92,10 @@ judge-elements-spec =
     add-u32-at
     (λ c κs. search needs)
     (λ c. search needs)
+    add-byte-at
     (λ c κs. search needs)
+    (λ c. search needs)
+    (λ c. search needs)
     returns-2
     (λ c. search needs)
     add-at

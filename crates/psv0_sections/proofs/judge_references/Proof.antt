@@ -8,16 +8,16 @@ use Rattle.psv0_sections.proofs.judge_references.Tie as tie
 returns : tie.Need-returns
 returns c =
     let j = c .before .before .before in
-    let u = j .before .before .before in
-    let s = u .before .before .before .before .before in
+    let u = j .before .before in
+    let s = u .before .before .before .before in
     stop-then _ _ _ _
     (sym (j .judge-elements .ensures _ (judging _ (s .args .p) (s .pre .0) _ (u .string-end .ensures))) ∙ c .before .n .given .1)
 
 returns-2 : tie.Need-returns-2
 returns-2 c =
     let j = c .before .before .before in
-    let u = j .before .before .before in
-    let s = u .before .before .before .before .before in
+    let u = j .before .before in
+    let s = u .before .before .before .before in
     pass-then _ _ _
     (sym (j .judge-elements .ensures _ (judging _ (s .args .p) (s .pre .0) _ (u .string-end .ensures))) ∙ c .before .enum-told .given .1)
     (c .judge-entry .ensures ∙ entry-judged _ (s .args .p) (s .pre .0) _ (u .string-end .ensures) _ (s .pre .1))
@@ -32,12 +32,7 @@ judge-references-spec =
     (λ c. search needs)
     (λ c. search needs)
     (λ c. search needs)
-    (λ c. search needs)
-    (λ c. search needs)
     (λ c κs. search needs)
-    (λ c. search needs)
-    (λ c. search needs)
-    (λ c. search needs)
     (λ c. search needs)
     (λ c. search needs)
     (λ c. search needs)
