@@ -168,7 +168,7 @@ static Bytes with_psv0(const Bytes &psv0) {
     return p.container();
 }
 
-// PSV0 data of edition 3, a pixel shader: resource records, elements with these references, strings and indices.
+// PSV0 data of edition 3, a pixel shader: resource records, elements of one row with these names, strings and indices.
 static Bytes psv0_of(uint32_t resources, uint32_t elements, uint32_t name, const Bytes &strings, uint32_t indices) {
     Bytes b;
     append(b, 52);
@@ -189,7 +189,7 @@ static Bytes psv0_of(uint32_t resources, uint32_t elements, uint32_t name, const
     for (uint32_t e = 0; e < elements; e++) {
         append(b, name + e % 8);
         append(b, 0);
-        append(b, 0);
+        append(b, 1);
         append(b, 0);
     }
     return b;

@@ -228,7 +228,8 @@ QOLLQAMIR_NO_PADDING(qollqamir_program_report,
 #undef QOLLQAMIR_SIZE
 #undef QOLLQAMIR_NO_PADDING
 
-/* Kinds of view; number is the element's or the mask's (0 to 10) and is not looked at for the others. Any other kind gives 26. */
+/* Kinds of view; number is the element's or the mask's (0 to 10) and is not looked at for the others. Any other kind gives 26.
+   An element's array has as many numbers, 4 bytes each, as the element has rows. */
 enum {
     QOLLQAMIR_STAGE_UNION = 0,
     QOLLQAMIR_ELEMENT_STRING = 1,

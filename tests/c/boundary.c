@@ -326,13 +326,13 @@ static struct sections hull(void) {
     }
     put32(s.elements, 6);
     put32(s.elements + 4, 0);
-    put(s.elements + 8, "\x01\x02\xe3\x04\x05\x06\xff\x07", 8);
+    put(s.elements + 8, "\x03\x02\xe3\x04\x05\x06\xff\x07", 8);
     put32(s.elements + 16, 10);
-    put32(s.elements + 20, 3);
+    put32(s.elements + 20, 6);
     memset(s.elements + 24, 0, 8);
     put32(s.elements + 32, 0);
     put32(s.elements + 36, 4);
-    memset(s.elements + 40, 0xff, 8);
+    put(s.elements + 40, "\x02\xff\xff\xff\xff\xff\xff\xff", 8);
     for (size_t i = 0; i < sizeof s.masks; i++) {
         s.masks[i] = (uint8_t)i;
     }
@@ -357,6 +357,9 @@ static void test_writers(void) {
     REFUSED(WRITE(3, 52, sizeof s.masks, 0), 28, 0);
     put32(s.elements + 36, 5);
     REFUSED(WRITE(3, 52, sizeof s.masks, sizeof psv0), 23, 2);
+    put32(s.elements + 20, 7);
+    REFUSED(WRITE(3, 52, sizeof s.masks, sizeof psv0), 23, 1);
+    put32(s.elements + 20, 6);
     put32(s.elements + 16, 16);
     REFUSED(WRITE(3, 52, sizeof s.masks, sizeof psv0), 22, 1);
     put32(s.elements + 36, 4);
@@ -420,7 +423,7 @@ static void test_writers(void) {
     qollqamir_element_record element = qollqamir_element(out, len, 3, 0);
     SET(element.name_offset, 6);
     SET(element.index_reference, 0);
-    SET(element.rows, 1);
+    SET(element.rows, 3);
     SET(element.start_row, 2);
     SET(element.columns, 3);
     SET(element.start_column, 2);
@@ -436,8 +439,10 @@ static void test_writers(void) {
     SET(element.reserved, 255);
     REFUSED(qollqamir_element(out, len, 3, 3), 26, 0);
     CHECK(shows(out, qollqamir_view(out, len, 3, QOLLQAMIR_ELEMENT_STRING, 0), "POS", 3));
-    CHECK(shows(out, qollqamir_view(out, len, 3, QOLLQAMIR_ELEMENT_ARRAY, 0), s.indices + 4, 8));
-    CHECK(shows(out, qollqamir_view(out, len, 3, QOLLQAMIR_ELEMENT_ARRAY, 2), s.indices + 20, 4));
+    /* As many numbers as the element has rows; the second has none, and its reference is at the end of the table. */
+    CHECK(shows(out, qollqamir_view(out, len, 3, QOLLQAMIR_ELEMENT_ARRAY, 0), s.indices, 12));
+    CHECK(shows(out, qollqamir_view(out, len, 3, QOLLQAMIR_ELEMENT_ARRAY, 1), "", 0));
+    CHECK(shows(out, qollqamir_view(out, len, 3, QOLLQAMIR_ELEMENT_ARRAY, 2), s.indices + 16, 8));
     CHECK(shows(out, qollqamir_view(out, len, 3, QOLLQAMIR_ENTRY_NAME, 0), "main", 4));
     CHECK(shows(out, qollqamir_view(out, len, 3, QOLLQAMIR_MASK, 4), s.masks + 8, 8));
     CHECK(shows(out, qollqamir_view(out, len, 3, QOLLQAMIR_MASK, 5), s.masks + 16, 96));

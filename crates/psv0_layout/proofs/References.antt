@@ -21,7 +21,7 @@ use Rattle.psv0_layout.specs.Field.{nameOffset, indexReference, rowCount
 use Rattle.psv0_layout.specs.Judged.{elementJudged, elementsJudged}
 use Rattle.psv0_layout.specs.Layout.{Body}
 use Rattle.psv0_layout.specs.Position.{NoZero, UpToLastZero}
-use Rattle.psv0_layout.specs.Reference.{hasZero, untilZero, stringGood, stringAt, indexTotal, indexGood}
+use Rattle.psv0_layout.specs.Reference.{hasZero, untilZero, stringGood, stringAt, indexTotal, indexGood, arrayAt}
 use Rattle.psv0_layout.proofs.Positions.{part-u32, part-part}
 
 -- ---- zero bytes in a list
@@ -125,6 +125,24 @@ unfolding stringGood
 string-inside t o e = ltb-true o (length t) (both (ltb o (length t)) _ e .0)
 
 -- ---- index references
+-- "rows 0 gives an empty array and i may equal N", and not pass it
+pub no-rows : (x : List ℕ) (i : ℕ) → arrayAt x i 0 ≡ []
+unfolding arrayAt
+no-rows x i = refl
+
+pub at-end : (x : List ℕ) → indexGood x (indexTotal x) 0 ≡ true
+unfolding indexGood
+at-end x = le-leb (indexTotal x + 0) (indexTotal x) (omega arith)
+
+pub past-end : (x : List ℕ) → indexGood x (indexTotal x + 1) 0 ≡ false
+unfolding indexGood
+past-end x = lt-leb (indexTotal x + 1 + 0) (indexTotal x) (omega arith)
+
+-- "the reference points at the first index": number j of the array is number i + j of the table
+pub array-number : (x : List ℕ) (i r j : ℕ) → j < r → u32At (arrayAt x i r) (j * 4) ≡ u32At x ((i + j) * 4)
+unfolding arrayAt
+array-number x i r j h = let e : i * 4 + j * 4 ≡ (i + j) * 4 = omega arith in rw (part-u32 x (i * 4) (r * 4) (j * 4) (omega arith), e)
+
 -- the array of a good reference lies inside
 pub index-inside : (x : List ℕ) (i r : ℕ) → indexGood x i r ≡ true → i + r ≤ indexTotal x
 unfolding indexGood

@@ -221,16 +221,19 @@ fn three() -> [u8; 52] {
     record(1, 0, 0, [1, 1, 1], 0, [0, 0, 0, 0])
 }
 
-// Three elements: the name offset and the index reference of each.
-fn elements(names: [u8; 3], indices: [u8; 3]) -> [u8; 48] {
+// Three elements: the name offset, the index reference and the rows of each.
+fn elements(names: [u8; 3], indices: [u8; 3], rows: [u8; 3]) -> [u8; 48] {
     let mut e = [0u8; 48];
     e[0] = names[0];
     e[4] = indices[0];
+    e[8] = rows[0];
     e[15] = 11;
     e[16] = names[1];
     e[20] = indices[1];
+    e[24] = rows[1];
     e[32] = names[2];
     e[36] = indices[2];
+    e[40] = rows[2];
     e
 }
 
@@ -253,9 +256,9 @@ fn case(edition: usize, r: &[u8; 52], e: &[u8; 48], n: [usize; 6], room: usize) 
     );
 }
 
-// A case whose elements are good: names at 0, 1 and 5.
+// A case whose elements are good: names at 0, 1 and 5, arrays of two numbers, one, and none at the end of the table.
 fn plain(edition: usize, r: [u8; 52], n: [usize; 6], room: usize) {
-    let e = elements([0, 1, 5], [0, 1, 0]);
+    let e = elements([0, 1, 5], [0, 1, 2], [2, 1, 0]);
     case(edition, &r, &e, n, room);
 }
 
@@ -420,29 +423,37 @@ fn fields() {
 
 // ---- 22 to 24
 
-fn references(names: [u8; 3], indices: [u8; 3]) {
+fn references(names: [u8; 3], indices: [u8; 3], rows: [u8; 3]) {
     let r = three();
-    let e = elements(names, indices);
+    let e = elements(names, indices, rows);
     case(1, &r, &e, [36, 0, 8, 8, 48, 0], 512);
 }
 
 fn element_references() {
     print(b"three elements:");
-    references([0, 1, 7], [0, 1, 0]);
+    references([0, 1, 7], [0, 1, 0], [1, 1, 2]);
     print(b"name 0:");
-    references([8, 8, 8], [0, 0, 0]);
+    references([8, 8, 8], [0, 0, 0], [1, 1, 1]);
     print(b"name 1:");
-    references([7, 8, 0], [0, 0, 0]);
+    references([7, 8, 0], [0, 0, 0], [1, 1, 1]);
     print(b"name 2:");
-    references([0, 0, 255], [0, 0, 0]);
+    references([0, 0, 255], [0, 0, 0], [1, 1, 1]);
     print(b"index 0:");
-    references([0, 0, 0], [2, 2, 2]);
+    references([0, 0, 0], [2, 2, 2], [1, 1, 1]);
     print(b"index 2:");
-    references([0, 0, 0], [0, 1, 2]);
+    references([0, 0, 0], [0, 1, 2], [1, 1, 1]);
     print(b"name 1 and index 1:");
-    references([0, 8, 0], [0, 2, 0]);
+    references([0, 8, 0], [0, 2, 0], [1, 1, 1]);
     print(b"name 1 and index 0:");
-    references([0, 8, 0], [2, 0, 0]);
+    references([0, 8, 0], [2, 0, 0], [1, 1, 1]);
+    print(b"no rows, at the end:");
+    references([0, 0, 0], [2, 2, 2], [0, 0, 0]);
+    print(b"no rows, one past the end:");
+    references([0, 0, 0], [2, 3, 2], [0, 0, 0]);
+    print(b"array to one past the end:");
+    references([0, 0, 0], [0, 0, 1], [2, 1, 2]);
+    print(b"rows 255:");
+    references([0, 0, 0], [0, 0, 0], [2, 255, 0]);
     print(b"array past the indices:");
     plain(1, three(), [36, 0, 8, 4, 48, 0], 512);
 }
@@ -510,10 +521,10 @@ fn entry_and_element() -> [u8; 52] {
 fn later_precedence() {
     let r = entry_and_element();
     print(b"22 and 24:");
-    let e = elements([8, 0, 0], [0, 0, 0]);
+    let e = elements([8, 0, 0], [0, 0, 0], [1, 1, 1]);
     case(3, &r, &e, [52, 0, 8, 8, 16, 0], 512);
     print(b"23 and 24:");
-    let f = elements([0, 0, 0], [2, 0, 0]);
+    let f = elements([0, 0, 0], [2, 0, 0], [1, 1, 1]);
     case(3, &r, &f, [52, 0, 8, 8, 16, 0], 512);
     print(b"23 and 28:");
     case(3, &r, &f, [52, 0, 8, 8, 16, 0], 0);

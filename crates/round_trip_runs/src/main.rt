@@ -500,7 +500,6 @@ fn numbered(words: &mut [u8; 200]) {
     }
 }
 
-// Arrays of two numbers, none and one.
 fn indices() -> [u8; 24] {
     let mut x = [0u8; 24];
     wire::put_u32(&mut x, 0, 2);
@@ -511,33 +510,34 @@ fn indices() -> [u8; 24] {
     x
 }
 
+// Arrays of two numbers, none at the end of the table, one, all six, two and three.
 fn elements() -> [u8; 96] {
     let mut e = [0u8; 96];
-    put(&mut e, 0, b"\x06\x00\x00\x00\x00\x00\x00\x00ab\xe4cde\xd5f");
+    put(&mut e, 0, b"\x06\x00\x00\x00\x01\x00\x00\x00\x02b\xe4cde\xd5f");
     put(
         &mut e,
         16,
-        b"\x0a\x00\x00\x00\x03\x00\x00\x00gh\x93ijk\x6al",
+        b"\x0a\x00\x00\x00\x06\x00\x00\x00\x00h\x93ijk\x6al",
     );
     put(
         &mut e,
         32,
-        b"\x00\x00\x00\x00\x04\x00\x00\x00mn\x71opq\xb3r",
+        b"\x00\x00\x00\x00\x05\x00\x00\x00\x01n\x71opq\xb3r",
     );
     put(
         &mut e,
         48,
-        b"\x07\x00\x00\x00\x00\x00\x00\x00st\x02uvw\x0fx",
+        b"\x07\x00\x00\x00\x00\x00\x00\x00\x06t\x02uvw\x0fx",
     );
     put(
         &mut e,
         64,
-        b"\x0b\x00\x00\x00\x04\x00\x00\x00AB\xffCDE\xc1F",
+        b"\x0b\x00\x00\x00\x04\x00\x00\x00\x02B\xffCDE\xc1F",
     );
     put(
         &mut e,
         80,
-        b"\x0e\x00\x00\x00\x03\x00\x00\x00GH\xc8IJK\x2cL",
+        b"\x0e\x00\x00\x00\x03\x00\x00\x00\x03H\xc8IJK\x2cL",
     );
     e
 }

@@ -82,16 +82,78 @@ pub const SEEN: [&str; 7] = [
     "bitcode that 32 bits would take back inside the data",
 ];
 
-/// How often each call gave each verdict (0: it accepted), and at which places; how often each of `SEEN` came.
+/// Where index references stood, beside an index table of N numbers, that a reading or a writer answered for.
+#[derive(Clone, Copy)]
+enum Edge {
+    AtFirst,
+    AtMiddle,
+    AtLast,
+    EmptyAtN,
+    EmptyPastN,
+    OnePast,
+    Most,
+    MostPast,
+    Near,
+}
+
+pub const EDGES: [&str; 9] = [
+    "23 at element 0 of several",
+    "23 at a middle element",
+    "23 at the last element of several",
+    "rows 0 at N, accepted",
+    "rows 0 at N + 1, 23",
+    "an array to one number past N, 23",
+    "rows 255, accepted",
+    "rows 255, 23",
+    "a reference from which 32 bits would take the rows back to 0 or past it, 23",
+];
+
+/// How often each call gave each verdict (0: it accepted), and at which places; how often each of `SEEN` came, and of `EDGES` in a
+/// reading and in a writer.
 pub struct Hits {
     pub counts: [[u64; NUMBERS]; CALLS.len()],
     pub places: [[BTreeSet<usize>; NUMBERS]; CALLS.len()],
     pub seen: [u64; SEEN.len()],
+    pub edges_read: [u64; EDGES.len()],
+    pub edges_written: [u64; EDGES.len()],
 }
 
 impl Default for Hits {
     fn default() -> Hits {
-        Hits { counts: [[0; NUMBERS]; CALLS.len()], places: from_fn(|_| from_fn(|_| BTreeSet::new())), seen: [0; SEEN.len()] }
+        Hits {
+            counts: [[0; NUMBERS]; CALLS.len()],
+            places: from_fn(|_| from_fn(|_| BTreeSet::new())),
+            seen: [0; SEEN.len()],
+            edges_read: [0; EDGES.len()],
+            edges_written: [0; EDGES.len()],
+        }
+    }
+}
+
+/// Notes the edges among the elements, `size` bytes each, of which a call said so.
+pub fn index_edges(indices: &[u8], elements: &[u8], size: usize, verdict: raw::Verdict, seen: &mut [u64; EDGES.len()]) {
+    let n = indices.len() as u64 / 4;
+    let records: Vec<(u64, u64)> = elements.chunks_exact(size).map(|e| (get4(e, 4).into(), e[8].into())).collect();
+    let mut saw = |edge: Edge, is: bool| seen[edge as usize] += u64::from(is);
+    match verdict.number {
+        0 => {
+            for (index, rows) in records {
+                saw(Edge::EmptyAtN, rows == 0 && index == n);
+                saw(Edge::Most, rows == 255);
+            }
+        }
+        23 => {
+            let (place, last) = (verdict.place, records.len() - 1);
+            saw(Edge::AtFirst, place == 0 && last > 0);
+            saw(Edge::AtMiddle, place > 0 && place < last);
+            saw(Edge::AtLast, place > 0 && place == last);
+            let (index, rows) = records[place];
+            saw(Edge::EmptyPastN, rows == 0 && index == n + 1);
+            saw(Edge::OnePast, rows > 0 && index + rows == n + 1);
+            saw(Edge::MostPast, rows == 255);
+            saw(Edge::Near, index + rows >= 1 << 32);
+        }
+        _ => (),
     }
 }
 
@@ -553,6 +615,7 @@ pub fn write(edition: usize, sections: [&[u8]; 6], out: &[u8], hits: &mut Hits) 
     let [runtime, resources, strings, indices, elements, masks] = sections;
     let expected = reference::write_psv0(edition, runtime, resources, strings, indices, elements, masks, &mut theirs);
     hits.note(Call::Write, got.verdict);
+    index_edges(indices, elements, 16, got.verdict, &mut hits.edges_written);
     let all = sections.concat();
     let lengths = sections.map(<[u8]>::len);
     let expected_written = raw::Written { verdict: verdict_of(&expected), len: *expected.as_ref().unwrap_or(&0) };

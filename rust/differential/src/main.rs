@@ -13,7 +13,7 @@ use std::panic::{catch_unwind, AssertUnwindSafe};
 use std::process::ExitCode;
 use std::time::Instant;
 
-use compare::{Call, Check, Hits, Mismatch, CALLS, CONTAINER, NUMBERS, PSV0, SEEN};
+use compare::{Call, Check, Hits, Mismatch, CALLS, CONTAINER, EDGES, NUMBERS, PSV0, SEEN};
 use make::{Pieces, SIZES};
 use random::Random;
 
@@ -141,6 +141,12 @@ fn summary(done: &Done) -> Vec<String> {
             missed.push(what.to_string());
         }
     }
+    for (what, (read, written)) in EDGES.iter().zip(done.hits.edges_read.iter().zip(done.hits.edges_written)) {
+        println!("{what}: read {read}, written {written}");
+        if *read == 0 || written == 0 {
+            missed.push(what.to_string());
+        }
+    }
     println!("containers accepted by readers 0 to 3: {:?}", done.accepted);
     println!("widenings for readers 0 to 3: {:?}", done.widenings);
     println!("round trips: {}, of them from plain form {}", done.round_trips, done.plain);
@@ -202,7 +208,9 @@ fn case(seed: u64, number: u64, vectors: &[Vec<u8>], done: &mut Done) -> Check {
             let mut pieces = Pieces::valid(random);
             pieces.flaw(random);
             let psv0 = pieces.bytes().0;
-            within(random, &psv0, done)
+            within(random, &psv0, done)?;
+            note_edges(&pieces, &psv0, done);
+            Ok(())
         }
         // Damaged, cut or lengthened PSV0 data, in a container that is right.
         45..=69 => {
@@ -279,7 +287,14 @@ fn valid(random: &mut Random, done: &mut Done) -> Check {
     if random.one_in(3) {
         psv0_case(random, &psv0, done)?;
     }
+    note_edges(&pieces, &psv0, done);
     Ok(())
+}
+
+/// What reader 3 came by among the index references of PSV0 data that was made of pieces.
+fn note_edges(pieces: &Pieces, psv0: &[u8], done: &mut Done) {
+    let verdict = qollqamir::raw::psv0_open(psv0, 3).verdict;
+    compare::index_edges(&pieces.indices, &pieces.elements, pieces.element_size, verdict, &mut done.hits.edges_read);
 }
 
 /// PSV0 data alone, and in a container.

@@ -134,23 +134,18 @@ impl Pieces {
             let at = random.below(4 * words);
             pieces.strings[at] = 0;
         }
-        // Index arrays end to end, or numbers that may be read as counts.
-        let arrays = count(random, 4, 60).max(usize::from(elements > 0));
-        for _ in 0..arrays {
-            let numbers = random.below(4);
-            push4(&mut pieces.indices, numbers);
-            for _ in 0..numbers {
-                let number = if random.one_in(2) { random.below(6) } else { random.next() as usize };
-                push4(&mut pieces.indices, number);
-            }
+        // Numbers, some of them small enough to be taken for counts.
+        for _ in 0..count(random, 12, 600) {
+            let number = if random.one_in(2) { random.below(6) } else { random.next() as usize };
+            push4(&mut pieces.indices, number);
         }
-        let good = pieces.good_indices();
         for _ in 0..elements {
             let mut record = random.bytes(pieces.element_size);
             let name = pieces.good_string(random);
             put4(&mut record, 0, name);
-            let index = random.pick(&good);
+            let (index, rows) = pieces.good_index(random);
             put4(&mut record, 4, index);
+            record[8] = rows;
             pieces.elements.extend_from_slice(&record);
         }
         if size >= 52 {
@@ -180,9 +175,13 @@ impl Pieces {
         (if random.one_in(4) { last } else { random.below(last + 1) }) as u32
     }
 
-    fn good_indices(&self) -> Vec<u32> {
+    /// A good index reference and its rows, often up to the end of the table.
+    fn good_index(&self, random: &mut Random) -> (u32, u8) {
         let n = self.indices.len() / 4;
-        (0..n).filter(|i| i + 1 + get4(&self.indices, 4 * i) as usize <= n).map(|i| i as u32).collect()
+        let rows = random.pick(&[0, 0, 1, 1, 2, 3, 255]).min(n);
+        let last = n - rows;
+        let index = if random.one_in(3) { last } else { random.below(last + 1) };
+        (index as u32, rows as u8)
     }
 
     /// Records of another size, cut or with random bytes added.
@@ -222,6 +221,7 @@ impl Pieces {
                 for record in self.elements.chunks_exact(self.element_size) {
                     fields.push(bytes.len());
                     fields.push(bytes.len() + 4);
+                    fields.push(bytes.len() + 8);
                     bytes.extend_from_slice(record);
                 }
             }
@@ -263,15 +263,19 @@ impl Pieces {
             }
             6 | 7 if elements > 0 => {
                 let n = (self.indices.len() / 4) as u32;
-                let i = random.pick(&[n, n, n + 1, u32::MAX, n.wrapping_sub(1)]);
+                let rows = random.pick(&[0, 0, 1, 2, 255]);
+                // One past the last good reference, then others further on; with the last of them the sum with the rows is 2^32.
+                let past = (n + 1).saturating_sub(rows);
+                let i = random.pick(&[past, past, n + 1, u32::MAX, u32::MAX - 255, rows.max(1).wrapping_neg()]);
                 let at = random.below(elements) * self.element_size;
                 put4(&mut self.elements, at + 4, i);
+                self.elements[at + 8] = rows as u8;
             }
-            8 if !self.indices.is_empty() => {
-                let i = random.below(self.indices.len() / 4);
-                let rest = (self.indices.len() / 4 - i) as u32;
-                let c = random.pick(&[rest, rest - 1, u32::MAX, u32::MAX - i as u32]);
-                put4(&mut self.indices, 4 * i, c);
+            // Rows to the end of the table, to one past it, or as many as there can be.
+            8 if elements > 0 => {
+                let at = random.below(elements) * self.element_size;
+                let left = (self.indices.len() / 4).saturating_sub(get4(&self.elements, at + 4) as usize);
+                self.elements[at + 8] = random.pick(&[left, left + 1, 255]).min(255) as u8;
             }
             9 if !self.strings.is_empty() => {
                 let from = random.below(self.strings.len());

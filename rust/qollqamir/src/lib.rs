@@ -390,7 +390,7 @@ macro_rules! queries {
             self.view(ELEMENT_STRING, i)
         }
 
-        /// The bytes of the index array of element `i`, four a number, or 26.
+        /// The bytes of the index array of element `i`, four a number and as many numbers as it has rows, or 26.
         pub fn element_array(&self, i: usize) -> Result<&'a [u8], Refusal> {
             self.view(ELEMENT_ARRAY, i)
         }

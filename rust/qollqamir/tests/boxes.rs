@@ -120,14 +120,21 @@ fn last_fields() {
     runtime[24] = 13;
     runtime[28] = 1;
     let resources: Vec<u8> = (0..48).collect();
+    // The element's array is its one row, the last number of the index table.
+    let indices = *b"firstnumber!last";
     let mut elements = [0; 16];
+    elements[4] = 3;
+    elements[8] = 1;
     elements[15] = 0x99;
     let given =
-        Sections { runtime: &runtime, resources: &resources, strings: b"A\0\0\0", indices: &[0; 4], elements: &elements, masks: &[] };
+        Sections { runtime: &runtime, resources: &resources, strings: b"A\0\0\0", indices: &indices, elements: &elements, masks: &[] };
     let mut out = [0xee; 256];
     assert_eq!(write_psv0(3, given, &mut out[..8]), refused(28, 0));
     assert_eq!(write_psv0(4, given, &mut out), refused(25, 0));
     assert_eq!(write_psv0(2, given, &mut out), refused(27, 0));
+    let mut bad = elements;
+    bad[8] = 2;
+    assert_eq!(write_psv0(3, Sections { elements: &bad, ..given }, &mut out), refused(23, 0));
     assert_eq!(out, [0xee; 256]);
     let len = write_psv0(3, given, &mut out).unwrap();
     assert!(out[len..].iter().all(|byte| *byte == 0xee));
@@ -139,7 +146,7 @@ fn last_fields() {
     assert_eq!(psv0.resource(2), refused(26, 0));
     assert_eq!(psv0.element(0).unwrap().reserved, Some(0x99));
     assert_eq!(psv0.element_string(0), Ok(&b"A"[..]));
-    assert_eq!(psv0.element_array(0), Ok(&[][..]));
+    assert_eq!(psv0.element_array(0), Ok(&b"last"[..]));
     assert_eq!(psv0.element_array(1), refused(26, 0));
     assert_eq!(psv0.lengths().elements, Some(1));
     assert_eq!(psv0.runtime().entry_name_offset, Some(0));
