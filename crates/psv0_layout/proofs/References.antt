@@ -8,10 +8,10 @@ use mathlib.Core.Logic.{inl, inr, ⊎-elim}
 use native.Mathlib.Omega.{arith}
 use native.Mathlib.Numerals.{add-one}
 use native.Mathlib.Nat.{eq-or-lt-of-le}
-use lib.Dec.{leb, ltb}
+use lib.Dec.{ltb}
 use lib.ListN.{length, getD, take, drop, length-drop}
 use lib.Seq.{getD-drop}
-use borrow.Author.Tests.{lt-ltb, le-ltb, le-leb, lt-leb, leb-true, leb-false, ltb-true, ltb-false}
+use borrow.Author.Tests.{lt-ltb, le-leb, lt-leb, leb-true, ltb-true, ltb-false}
 use Rattle.wire.specs.Number.{u32At}
 use Rattle.wire.specs.Verdict.{_then_, check, each}
 use Rattle.wire.specs.declared.Verdict.the-variants.{Accepted, Refused}
@@ -22,7 +22,7 @@ use Rattle.psv0_layout.specs.Judged.{elementJudged, elementsJudged}
 use Rattle.psv0_layout.specs.Layout.{Body}
 use Rattle.psv0_layout.specs.Position.{NoZero, UpToLastZero}
 use Rattle.psv0_layout.specs.Reference.{hasZero, untilZero, stringGood, stringAt, indexTotal, indexGood, arrayAt}
-use Rattle.psv0_layout.proofs.Positions.{part-u32, part-part}
+use Rattle.psv0_layout.proofs.Positions.{part-u32}
 
 -- ---- zero bytes in a list
 zero-in : (l : List ℕ) (i : ℕ) → i < length l → getD l i 0 ≡ 0 → hasZero l ≡ true
