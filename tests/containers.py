@@ -46,20 +46,20 @@ def with_psv0(data):
 
 def hull():
     """A hull shader with something at every line of `show`: PSV0 data off every multiple of 4, records longer than the known ones,
-    strings with bytes that don't print, index arrays of 0, 1 and 3 numbers, view and input masks."""
+    strings with bytes that don't print, index arrays of 0 (at the table's end), 1 and 3 numbers, view and input masks."""
     stage, view, patch = 3, 1, 2
     record = bytes(range(16)) + words(4, 0xFFFFFFFF) + bytes([stage, view, patch, 0, 2, 1, 1, 1, 9, 0, 0, 0]) + words(7, 8, 9, 20)
     resources = words(2, 0, 0, 0, 13, 0, 99) + words(3, 1, 5, 0xFFFFFFFF, 2, 1, 99)
     strings = b"\0A \"\\\x1f\x7f\xff~\0!TexCoord\0main\0"
     strings += bytes(-len(strings) % 4)
-    indices = words(0, 1, 40, 3, 0, 1, 0xFFFFFFFF)
+    indices = words(40, 0, 1, 0xFFFFFFFF)
     elements = b"".join(
         words(name, index) + bytes(fields) + b"more"
         for name, index, fields in [
             (1, 0, [1, 0, 0x74, 0, 3, 2, 0x3F, 0]),
-            (10, 1, [1, 1, 0xC3, 16, 1, 8, 0x10, 7]),
-            (0, 3, [3, 2, 0x51, 3, 9, 0, 0x25, 255]),
-            (9, 0, [0, 255, 0x00, 25, 0, 1, 0x00, 0]),
+            (10, 3, [1, 1, 0xC3, 16, 1, 8, 0x10, 7]),
+            (0, 1, [3, 2, 0x51, 3, 9, 0, 0x25, 255]),
+            (9, 4, [0, 255, 0x00, 25, 0, 1, 0x00, 0]),
         ]
     )
     masks = words(0x12345678, 1) + words(3) + words(*range(8)) + words(*range(256, 260))

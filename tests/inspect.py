@@ -1,5 +1,5 @@
 #!/usr/bin/env python3
-"""inspect.py PROGRAM: runs the small program on made containers and compares what it prints with what document 01 says."""
+"""inspect.py PROGRAM: runs the small program on made containers and compares what it prints with what documents 01 and 02 say."""
 import subprocess
 import sys
 
@@ -7,7 +7,10 @@ from containers import EDITION_0, LONGEST, M, PROGRAM, box, psv0, with_psv0, wor
 
 TABLE_C = "accepted 3 2\nDXIL 40 4 known\nPSV0 52 76 known\n"
 THREE = "accepted 0 3\nDXIL 44 4 known\nPSV0 56 32 known\n"
-GOOD, BAD_NAME, BAD_INDEX = word(1) + word(0) + bytes(8), word(8) + word(0) + bytes(8), word(1) + word(1) + bytes(8)
+# Element records, for an index table of one number: name offset, index reference, rows.
+GOOD, BAD_NAME, BAD_INDEX, EMPTY, PAST = (
+    word(name) + word(index) + bytes([rows]) + bytes(7) for name, index, rows in [(1, 0, 1), (8, 0, 1), (1, 1, 1), (1, 1, 0), (1, 2, 0)]
+)
 
 CASES = [
     ("box M", M, "accepted 0 2\nDXIL 40 4 known\nPSV0 52 32 known\n"),
@@ -38,6 +41,8 @@ CASES = [
     ("no masks", with_psv0(psv0(view=1, vectors=(1, 0, 0, 0))), "refused 21 0\n"),
     ("the name of element 2", with_psv0(psv0(counts=(1, 2, 0), indices=word(0), elements=GOOD + GOOD + BAD_NAME)), "refused 22 2\n"),
     ("the index of element 1", with_psv0(psv0(counts=(1, 1, 1), indices=word(0), elements=GOOD + BAD_INDEX + BAD_NAME)), "refused 23 1\n"),
+    ("no rows, i = N", with_psv0(psv0(counts=(0, 1, 1), indices=word(0), elements=GOOD + EMPTY)), TABLE_C.replace("76", "116")),
+    ("no rows, i = N + 1", with_psv0(psv0(counts=(0, 1, 1), indices=word(0), elements=EMPTY + PAST)), "refused 23 1\n"),
     ("an unknown name", box([PROGRAM, EDITION_0, (b"ABCD", b"xyz")]), THREE + "ABCD 96 3 unknown\n"),
     ("odd name bytes", box([PROGRAM, EDITION_0, (b"!\x20\x7f\xff", b"")]), THREE + "!??? 96 0 unknown\n"),
     ("65,536 bytes", LONGEST, THREE + "PRIV 96 65432 known\n"),
@@ -52,8 +57,8 @@ def main():
         got = subprocess.run([sys.argv[1]], input=data, capture_output=True, check=True).stdout.decode()
         if got != said:
             wrong += 1
-            print(f"inspect: {label}: printed {got!r}, and document 01 says {said!r}")
-    print(f"inspect: {len(CASES) - wrong} of {len(CASES)} containers print what document 01 says")
+            print(f"inspect: {label}: printed {got!r}, and documents 01 and 02 say {said!r}")
+    print(f"inspect: {len(CASES) - wrong} of {len(CASES)} containers print what documents 01 and 02 say")
     sys.exit(1 if wrong else 0)
 
 

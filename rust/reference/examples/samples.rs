@@ -1,7 +1,7 @@
 //! `cargo run --release --example samples DIRECTORY` writes 3,000 made-up
 //! containers that reader 3 accepts, of all editions and eight stages, for
-//! `compare-obj2yaml`. Index references leave room for the element's rows, and
-//! numbers that LLVM names are among those it knows, so that LLVM reads them too.
+//! `compare-obj2yaml`. Index arrays are any stretches of the table, and numbers
+//! that LLVM names are among those it knows, so that LLVM reads them too.
 
 #[path = "../tests/common/mod.rs"]
 mod common;
@@ -71,14 +71,21 @@ fn later_sections(random: &mut Random, stage: u8, psv0: &mut Psv0) {
     }
     psv0.strings = (0..16).map(|_| random.pick(b"\0abcXYZ_9")).collect();
     psv0.strings[15] = 0;
-    psv0.indices = (0..12).map(|_| random.below(3) as u32).collect();
+    // At times a table that has room for the most rows.
+    let count = if random.one_in(8) { 255 + random.below(46) } else { random.below(13) };
+    psv0.indices = (0..count).map(|_| (random.next() >> 32) as u32).collect();
     let elements: usize = psv0.runtime[28..31].iter().map(|count| usize::from(*count)).sum();
     psv0.element_size = random.pick(&[16, 16, 20]);
     for _ in 0..elements {
-        let mut record = words(&[random.below(16) as u32, random.below(8) as u32]);
-        // Rows, start row, columns and so on, semantic, component, interpolation,
+        // i + rows is at most N, and at times N itself: rows 0 at i = N, too.
+        let i = random.below(count + 1);
+        let most = (count - i).min(255);
+        let rows = if random.one_in(4) { most } else { random.below(most + 1) };
+        let mut record = words(&[random.below(16) as u32, i as u32]);
+        record.push(rows as u8);
+        // Start row, columns and so on, semantic, component, interpolation,
         // dynamic mask and stream, reserved.
-        for bound in [5, 256, 256, 31, 10, 9, 256, 256] {
+        for bound in [256, 256, 31, 10, 9, 256, 256] {
             record.push(random.below(bound) as u8);
         }
         record.extend(random.bytes(psv0.element_size as usize - 16));

@@ -1,7 +1,7 @@
 //! A reader and writer of DirectX containers and their PSV0 part, and a reader
-//! of the DXIL part's header, written from documents 000, 001 and 01 and request
-//! 1 of 02 alone. It is a second opinion: every rule stands here as directly as
-//! it can be said, so that another reader can be held against it.
+//! of the DXIL part's header, written from documents 000, 001 and 01 and requests
+//! 1 and 2 of 02 alone. It is a second opinion: every rule stands here as
+//! directly as it can be said, so that another reader can be held against it.
 //!
 //! * [`table`] reads the part table (refusals 1 to 9).
 //! * [`open`] opens a whole container, [`open_psv0`] PSV0 data alone; both give

@@ -192,7 +192,9 @@ pub struct Resource {
 #[derive(Clone, Copy, Debug, PartialEq, Eq)]
 pub struct Element {
     pub name_offset: u32,
+    /// Where the index array starts in the index table.
     pub index_reference: u32,
+    /// The number of rows, and of the numbers in the index array.
     pub rows: u32,
     pub start_row: u32,
     pub columns: u32,
@@ -416,7 +418,7 @@ fn read_later<'a>(cursor: &mut Cursor<'a>, runtime: &Runtime) -> Result<Later<'a
         if !good_string(element.name_offset) {
             return Err(refusal_at(22, i));
         }
-        if array_at(indices, element.index_reference).is_none() {
+        if array_of(indices, &element).is_none() {
             return Err(refusal_at(23, i));
         }
     }
@@ -437,20 +439,20 @@ fn string_at(strings: &[u8], o: u32) -> Option<&[u8]> {
     Some(&from_o[..length])
 }
 
-/// The bytes of the index array at i: as many numbers as the one at i says,
-/// after it. None when the reference isn't good.
-fn array_at(indices: &[u8], i: u32) -> Option<&[u8]> {
+/// The bytes of an element's index array, or None when its reference i isn't
+/// good. Request 2: "the element's rows field is the count and the reference
+/// points at the first index. So: good when i plus rows is at most N; rows 0
+/// gives an empty array and i may equal N." The judging and the queries both
+/// come here, and the writer through the judging.
+fn array_of<'a>(indices: &'a [u8], element: &Element) -> Option<&'a [u8]> {
     let n = (indices.len() / 4) as u64;
-    let i = u64::from(i);
-    if i >= n {
+    // 32-bit numbers held in 64 bits, so the sum is exact.
+    let i = u64::from(element.index_reference);
+    let end = i + u64::from(element.rows);
+    if end > n {
         return None;
     }
-    let c = u64::from(number4(indices, 4 * i as usize));
-    if i + 1 + c > n {
-        return None;
-    }
-    let start = 4 * (i as usize + 1);
-    Some(&indices[start..start + 4 * c as usize])
+    Some(&indices[4 * i as usize..4 * end as usize])
 }
 
 /// The queries. Those that can miss answer 26.
@@ -513,7 +515,7 @@ impl<'a> Opening<'a> {
     pub fn array_bytes(&self, i: usize) -> Result<&'a [u8], Refusal> {
         let later = self.later.ok_or(refusal(26))?;
         let element = self.element(i)?;
-        array_at(later.indices, element.index_reference).ok_or(refusal(26))
+        array_of(later.indices, &element).ok_or(refusal(26))
     }
 
     /// The numbers of the index array of an element.

@@ -33,15 +33,19 @@ fn made(random: &mut Random) -> Psv0 {
         if !random.one_in(20) {
             psv0.strings[length - 1] = 0;
         }
-        let count = random.pick(&[1, 2, 6]);
-        psv0.indices = (0..count).map(|_| random.pick(&[0, 0, 1, 2])).collect();
+        let count = random.pick(&[0, 1, 2, 6]);
+        psv0.indices = (0..count).map(|_| random.pick(&[0, 1, 2, u32::MAX])).collect();
         let elements: usize = psv0.runtime[28..31].iter().map(|n| usize::from(*n)).sum();
         psv0.element_size = random.pick(&[16, 16, 16, 20, 32]);
         for _ in 0..elements {
             let bound = length + usize::from(random.one_in(12));
             let mut record = words(&[random.below(bound) as u32]);
-            record.extend(words(&[random.below(count) as u32]));
-            record.extend(random.bytes(psv0.element_size as usize - 8));
+            // Any stretch of the table, at times one too far or one too long.
+            let i = random.below(count + 1);
+            let rows = random.below(count - i + 1) + usize::from(random.one_in(24));
+            record.extend(words(&[(i + usize::from(random.one_in(24))) as u32]));
+            record.push(rows as u8);
+            record.extend(random.bytes(psv0.element_size as usize - 9));
             psv0.elements.extend(record);
         }
         psv0.masks = random.bytes(4 * mask_total(&psv0.runtime));
@@ -204,7 +208,7 @@ fn older_and_newer_readers() {
 #[test]
 fn accepted_data_is_what_the_layout_puts_there() {
     let mut random = Random(0xfeed_beef_0bad_cafe);
-    let mut accepted = 0;
+    let (mut accepted, mut whole, mut empty) = (0, 0, 0);
     for _ in 0..40_000 {
         let mut data = made(&mut random).bytes();
         if random.one_in(3) {
@@ -257,11 +261,12 @@ fn accepted_data_is_what_the_layout_puts_there() {
                 let end = string.iter().position(|byte| *byte == 0).expect("a zero at o or later");
                 assert_eq!(opening.string(i), Ok(&string[..end]));
                 let r = number(at + i * record + 4);
-                assert!(r < n);
-                let c = number(indices + 4 * r);
-                assert!(r + 1 + c <= n);
+                let rows = usize::from(data[at + i * record + 8]);
+                assert!(r + rows <= n);
                 let array: Vec<u32> =
-                    (0..c).map(|j| number(indices + 4 * (r + 1 + j)) as u32).collect();
+                    (r..r + rows).map(|j| number(indices + 4 * j) as u32).collect();
+                whole += usize::from(rows > 1 && r + rows == n);
+                empty += usize::from(rows == 0 && r == n);
                 assert_eq!(opening.array(i), Ok(array));
             }
             assert_eq!(handed.elements, &data[at..at + e * record]);
@@ -274,6 +279,8 @@ fn accepted_data_is_what_the_layout_puts_there() {
         assert_eq!(opening.layout.end, at + total);
     }
     assert!(accepted > 20_000, "{accepted} accepted");
+    assert!(whole > 2_000, "{whole} arrays of several numbers end with the table");
+    assert!(empty > 2_000, "{empty} empty arrays at the table's end");
 }
 
 #[test]

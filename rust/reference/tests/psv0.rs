@@ -6,6 +6,7 @@ use reference::{
     open, open_default, open_psv0, open_psv0_default, plain, Element, Opening, Part, Resource,
     Runtime, LONGEST,
 };
+use std::path::Path;
 
 fn opened(psv0: &Psv0, edition: usize, check: impl Fn(&Opening)) {
     let data = psv0.bytes();
@@ -345,7 +346,6 @@ fn elements_that_do_not_fit() {
             let mut psv0 = Psv0::of_size(36);
             psv0.runtime[28..31].copy_from_slice(&lists);
             psv0.strings = vec![0; 4];
-            psv0.indices = vec![0];
             psv0.element_size = size;
             psv0.elements = vec![0; 2 * size as usize];
             let at = psv0.elements_at();
@@ -365,7 +365,6 @@ fn elements_that_do_not_fit() {
     let mut psv0 = Psv0::of_size(36);
     psv0.runtime[28..31].copy_from_slice(&[255; 3]);
     psv0.strings = vec![0; 4];
-    psv0.indices = vec![0];
     psv0.elements = vec![0; 16 * 765];
     opened(&psv0, 1, |opening| {
         assert_eq!(opening.element_count(), Some(765));
@@ -455,7 +454,7 @@ fn references_element_by_element() {
         put4(&mut psv0.elements, 16 * bad, 16);
         refuses(&psv0.bytes(), 1, 22, bad);
         let mut psv0 = good.clone();
-        put4(&mut psv0.elements, 16 * bad + 4, 6);
+        put4(&mut psv0.elements, 16 * bad + 4, 7);
         refuses(&psv0.bytes(), 1, 23, bad);
         put4(&mut psv0.elements, 16 * bad, u32::MAX);
         refuses(&psv0.bytes(), 1, 22, bad);
@@ -480,7 +479,6 @@ fn references_at_their_bounds() {
     let mut psv0 = Psv0::of_size(52);
     psv0.runtime[28] = 1;
     psv0.strings = b"ab\0cdefg".to_vec();
-    psv0.indices = vec![0];
     psv0.elements = vec![0; 16];
     let expected: [Option<&[u8]>; 9] =
         [Some(b"ab"), Some(b"b"), Some(b""), None, None, None, None, None, None];
@@ -517,31 +515,167 @@ fn references_at_their_bounds() {
 }
 
 #[test]
-fn index_references_at_their_bounds() {
+fn index_arrays_by_hand() {
     let mut psv0 = Psv0::of_size(36);
     psv0.runtime[28] = 1;
     psv0.strings = vec![0; 4];
-    psv0.elements = vec![0; 16];
-    psv0.indices = vec![5, 3, 9, 1, 0, 0];
-    let expected: [Option<&[u32]>; 7] =
-        [Some(&[3, 9, 1, 0, 0]), Some(&[9, 1, 0]), None, Some(&[0]), Some(&[]), Some(&[]), None];
-    for (i, array) in expected.iter().enumerate() {
-        psv0.elements[4] = i as u8;
+    // Small numbers too: none of them counts anything.
+    psv0.indices = vec![5, 3, 9, 1, 0, u32::MAX];
+    let expected: [(u32, u8, Option<&[u32]>); 17] = [
+        (0, 0, Some(&[])),
+        (0, 1, Some(&[5])),
+        (0, 2, Some(&[5, 3])),
+        (0, 6, Some(&[5, 3, 9, 1, 0, u32::MAX])),
+        (0, 7, None),
+        (1, 4, Some(&[3, 9, 1, 0])),
+        (2, 1, Some(&[9])),
+        (2, 4, Some(&[9, 1, 0, u32::MAX])),
+        (2, 5, None),
+        (3, 2, Some(&[1, 0])),
+        (4, 1, Some(&[0])),
+        (4, 2, Some(&[0, u32::MAX])),
+        (5, 0, Some(&[])),
+        (5, 1, Some(&[u32::MAX])),
+        (5, 2, None),
+        (6, 0, Some(&[])),
+        (7, 0, None),
+    ];
+    for (i, rows, array) in expected {
+        psv0.elements = element(0, i, [rows, 0, 0, 0, 0, 0, 0, 0]);
         match array {
             Some(array) => opened(&psv0, 1, |opening| {
-                assert_eq!(opening.array(0), Ok(array.to_vec()));
-                assert_eq!(opening.array_bytes(0), Ok(&words(array)[..]));
+                assert_eq!(opening.array(0), Ok(array.to_vec()), "{i} {rows}");
+                assert_eq!(opening.array_bytes(0), Ok(&words(array)[..]), "{i} {rows}");
             }),
             None => refuses(&psv0.bytes(), 1, 23, 0),
         }
     }
-    psv0.elements[4] = 0;
-    for count in [6, 1 << 30, u32::MAX - 1, u32::MAX] {
-        psv0.indices[0] = count;
-        refuses(&psv0.bytes(), 1, 23, 0);
+    // The table of a real shader: one number, 0, for every element of one row.
+    psv0.indices = vec![0];
+    psv0.elements = element(0, 0, [1, 0, 0, 0, 0, 0, 0, 0]);
+    opened(&psv0, 1, |opening| assert_eq!(opening.array(0), Ok(vec![0])));
+}
+
+#[test]
+fn index_arrays_at_every_edge_and_place() {
+    for (n, i, rows, good) in INDEX_EDGES {
+        for place in 0..5 {
+            for size in [16, 20, 32] {
+                let psv0 = with_reference(n, place, i, rows).wider_elements(size);
+                accepts(&psv0.bytes(), 0);
+                for edition in 1..=3 {
+                    if !good {
+                        refuses(&psv0.bytes(), edition, 23, place);
+                        continue;
+                    }
+                    opened(&psv0, edition, |opening| {
+                        assert_eq!(opening.element(place).unwrap().rows, u32::from(rows));
+                        for (e, array) in arrays_of(n, place, i, rows).iter().enumerate() {
+                            assert_eq!(opening.array(e).as_ref(), Ok(array));
+                            assert_eq!(opening.array_bytes(e), Ok(&words(array)[..]));
+                        }
+                        assert_eq!(opening.array(5), refused(26, 0));
+                    });
+                }
+            }
+        }
     }
-    psv0.indices.clear();
-    refuses(&psv0.bytes(), 1, 23, 0);
+}
+
+#[test]
+fn every_short_index_array() {
+    for n in 0..8 {
+        for i in 0..10 {
+            for rows in 0..10 {
+                let psv0 = with_reference(n, 2, i, rows);
+                if i + u32::from(rows) > n {
+                    refuses(&psv0.bytes(), 1, 23, 2);
+                } else {
+                    opened(&psv0, 1, |opening| {
+                        assert_eq!(opening.array(2).as_ref(), Ok(&arrays_of(n, 2, i, rows)[2]));
+                    });
+                }
+            }
+        }
+    }
+}
+
+#[test]
+fn index_arrays_may_share_numbers() {
+    // One twice, one inside another, three that overlap, two side by side, and
+    // empty ones inside and at the end.
+    let arrays: [(u32, u8, &[u32]); 10] = [
+        (0, 5, &[40, 0, 2, 1, 50]),
+        (0, 5, &[40, 0, 2, 1, 50]),
+        (1, 3, &[0, 2, 1]),
+        (0, 2, &[40, 0]),
+        (2, 3, &[2, 1, 50]),
+        (1, 2, &[0, 2]),
+        (3, 1, &[1]),
+        (4, 1, &[50]),
+        (2, 0, &[]),
+        (5, 0, &[]),
+    ];
+    let mut psv0 = Psv0::of_size(36);
+    psv0.runtime[28..31].copy_from_slice(&[5, 0, 5]);
+    psv0.strings = vec![0; 4];
+    psv0.indices = vec![40, 0, 2, 1, 50];
+    for (i, rows, _) in arrays {
+        psv0.elements.extend(element(0, i, [rows, 7, 7, 7, 7, 7, 7, 7]));
+    }
+    for size in [16, 20, 24, 64] {
+        opened(&psv0.wider_elements(size), 1, |opening| {
+            for (e, (_, _, array)) in arrays.iter().enumerate() {
+                assert_eq!(opening.array(e), Ok(array.to_vec()), "element {e}");
+            }
+        });
+    }
+}
+
+#[test]
+fn bad_index_references_among_most_elements() {
+    let mut psv0 = Psv0::of_size(36);
+    psv0.runtime[28..31].copy_from_slice(&[255; 3]);
+    psv0.strings = vec![0; 4];
+    psv0.indices = (0..255).collect();
+    psv0.elements = element(0, 0, [255, 0, 0, 0, 0, 0, 0, 0]).repeat(765);
+    opened(&psv0, 1, |opening| {
+        for e in 0..765 {
+            assert_eq!(opening.array(e), Ok((0..255).collect()));
+        }
+    });
+    // The place counts over all three lists, and is that of the first.
+    for bad in [764, 510, 509, 382, 255, 254, 1, 0] {
+        put4(&mut psv0.elements, 16 * bad + 4, 1);
+        refuses(&psv0.bytes(), 1, 23, bad);
+    }
+}
+
+#[test]
+fn index_arrays_of_other_makers() {
+    let vectors = Path::new(env!("CARGO_MANIFEST_DIR")).join("../../tests/vectors");
+    let arrays = |path: &Path| {
+        let bytes = std::fs::read(path).expect("the vector is there");
+        let opening = open(&bytes, 3).expect("it opens");
+        let count = opening.element_count().unwrap();
+        (0..count).map(|i| opening.array(i).unwrap()).collect::<Vec<_>>()
+    };
+    let mut elements = 0;
+    for entry in std::fs::read_dir(vectors.join("real")).expect("the vectors are there") {
+        let path = entry.unwrap().path();
+        if path.to_str().unwrap().contains("Shader_") {
+            let shown = arrays(&path);
+            assert_eq!(shown, vec![vec![0]; shown.len()], "{path:?}");
+            elements += shown.len();
+        }
+    }
+    assert_eq!(elements, 32);
+    let shown = arrays(&vectors.join("llvm/llvm19_yaml_GeometryMaskVectors_refit.bin"));
+    assert_eq!(shown, [[0], [2], [3], [0], [0]]);
+    // Three of these begin at the same number.
+    let shown = arrays(&vectors.join("llvm/llvm19_yaml_DomainMaskVectors_numbers.bin"));
+    let expected: [&[u32]; 6] = [&[0], &[0], &[0, 1, 2, 3], &[0, 1], &[0], &[0, 1, 2]];
+    assert_eq!(shown, expected);
 }
 
 #[test]
@@ -590,7 +724,7 @@ fn order_of_refusals() {
     refuses(&data, 3, 22, 1);
     put4(&mut data, elements + 4 + 16, 0);
     refuses(&data, 3, 23, 1);
-    put4(&mut data, elements + 4 + 20, 3);
+    put4(&mut data, elements + 4 + 20, 6);
     refuses(&data, 3, 24, 0);
     accepts(&data, 2);
     put4(&mut data, runtime + 48, 0);
@@ -713,20 +847,14 @@ fn resource_records_are_stepped_by_the_stated_size() {
 #[test]
 fn element_records_are_stepped_by_the_stated_size() {
     for size in [16usize, 20, 32] {
-        let mut psv0 = hull();
-        let short = std::mem::take(&mut psv0.elements);
-        psv0.element_size = size as u32;
-        for record in short.chunks(16) {
-            psv0.elements.extend_from_slice(record);
-            psv0.elements.resize(psv0.elements.len() + size - 16, 0xcc);
-        }
+        let psv0 = hull().wider_elements(size);
         for edition in 1..=3 {
             opened(&psv0, edition, |opening| {
                 assert_eq!(opening.element_count(), Some(3));
                 let first = Element {
                     name_offset: 6,
-                    index_reference: 0,
-                    rows: 1,
+                    index_reference: 1,
+                    rows: 3,
                     start_row: 2,
                     columns: 3,
                     start_column: 2,
@@ -743,14 +871,14 @@ fn element_records_are_stepped_by_the_stated_size() {
                 assert_eq!((second.columns, second.start_column, second.allocated), (4, 1, 0));
                 assert_eq!((second.dynamic_mask, second.stream, second.reserved), (1, 2, 0));
                 let third = opening.element(2).unwrap();
-                assert_eq!((third.rows, third.start_row, third.reserved), (255, 255, 255));
+                assert_eq!((third.rows, third.start_row, third.reserved), (3, 255, 255));
                 assert_eq!((third.columns, third.start_column, third.allocated), (15, 3, 1));
                 assert_eq!(opening.string(0), Ok(&b"POS"[..]));
                 assert_eq!(opening.string(1), Ok(&b"B"[..]));
                 assert_eq!(opening.string(2), Ok(&b""[..]));
-                assert_eq!(opening.array(0), Ok(vec![7, 8]));
+                assert_eq!(opening.array(0), Ok(vec![71, 72, 73]));
                 assert_eq!(opening.array(1), Ok(vec![]));
-                assert_eq!(opening.array(2), Ok(vec![9]));
+                assert_eq!(opening.array(2), Ok(vec![73, 74, 75]));
                 assert_eq!(opening.element(3), refused(26, 0));
                 assert_eq!(opening.string(3), refused(26, 0));
                 assert_eq!(opening.array(3), refused(26, 0));
@@ -864,7 +992,6 @@ fn plain_form() {
         let mut psv0 = Psv0::of_size(36);
         psv0.runtime[28] = 1;
         psv0.strings = vec![0; 4];
-        psv0.indices = vec![0];
         psv0.element_size = size as u32;
         psv0.elements = vec![0; size];
         assert_eq!(plain(&psv0.bytes()), size == 16);

@@ -100,11 +100,11 @@ resource 1 type 10 space 20 lower 30 upper 40 kind 50 flags 60
 strings 16
 indices 6
 elements 3
-element 0 name \"POS\" indices [7 8] name_offset 6 index_reference 0 rows 1 start_row 2 columns 3 \
+element 0 name \"POS\" indices [71 72 73] name_offset 6 index_reference 1 rows 3 start_row 2 columns 3 \
 start_column 2 allocated 1 semantic 4 component 5 interpolation 6 dynamic_mask 15 stream 3 reserved 7
-element 1 name \"B\" indices [] name_offset 10 index_reference 3 rows 0 start_row 0 columns 4 \
+element 1 name \"B\" indices [] name_offset 10 index_reference 6 rows 0 start_row 0 columns 4 \
 start_column 1 allocated 0 semantic 0 component 0 interpolation 0 dynamic_mask 1 stream 2 reserved 0
-element 2 name \"\" indices [9] name_offset 0 index_reference 4 rows 255 start_row 255 columns 15 \
+element 2 name \"\" indices [73 74 75] name_offset 0 index_reference 3 rows 3 start_row 255 columns 15 \
 start_column 3 allocated 1 semantic 255 component 255 interpolation 255 dynamic_mask 15 stream 3 \
 reserved 255
 mask 0 {}

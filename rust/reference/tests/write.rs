@@ -274,7 +274,7 @@ fn judged_as_by_reader_three() {
         put4(&mut write.elements, 16 * i, 16);
         write.refuses(22, i);
         let mut write = good.clone();
-        put4(&mut write.elements, 16 * i + 4, 1);
+        put4(&mut write.elements, 16 * i + 4, 7);
         put4(&mut write.runtime, 48, 16);
         write.refuses(23, i);
     }
@@ -285,6 +285,51 @@ fn judged_as_by_reader_three() {
     write.edition = 2;
     write.runtime.truncate(48);
     write.writes();
+}
+
+#[test]
+fn index_references_at_every_edge_and_place() {
+    for (n, i, rows, good) in INDEX_EDGES {
+        for place in 0..5 {
+            let mut psv0 = with_reference(n, place, i, rows);
+            for (edition, size) in [(3, 52), (2, 48), (1, 36)] {
+                psv0.runtime.truncate(size);
+                let write = Write::of(edition, &psv0);
+                if !good {
+                    write.refuses(23, place);
+                    continue;
+                }
+                let written = write.writes();
+                assert_eq!(written, psv0.bytes());
+                assert!(plain(&written));
+                let opening = open_psv0(&written, 3).unwrap();
+                for (e, array) in arrays_of(n, place, i, rows).iter().enumerate() {
+                    assert_eq!(opening.array(e).as_ref(), Ok(array));
+                }
+            }
+        }
+    }
+}
+
+#[test]
+fn the_first_bad_index_reference() {
+    let mut write = Write::of(3, &with_reference(6, 4, 7, 0));
+    write.refuses(23, 4);
+    // One row more, then one number fewer than the whole table takes.
+    write.elements[16 * 2 + 8] = 7;
+    write.refuses(23, 2);
+    write.indices.truncate(4 * 5);
+    write.refuses(23, 0);
+    write.indices.clear();
+    write.refuses(23, 0);
+    // 27 comes before it, and so does 22 for the same element.
+    let mut other = write.clone();
+    other.indices.push(0);
+    other.refuses(27, 0);
+    put4(&mut write.elements, 16, 4);
+    write.refuses(23, 0);
+    put4(&mut write.elements, 0, 4);
+    write.refuses(22, 0);
 }
 
 #[test]

@@ -109,6 +109,18 @@ impl Psv0 {
         bytes
     }
 
+    /// The same with element records of `size` bytes, the added ones 0xcc.
+    pub fn wider_elements(&self, size: usize) -> Psv0 {
+        let mut psv0 = self.clone();
+        psv0.elements.clear();
+        for record in self.elements.chunks(self.element_size as usize) {
+            psv0.elements.extend_from_slice(record);
+            psv0.elements.resize(psv0.elements.len() + size - record.len(), 0xcc);
+        }
+        psv0.element_size = size as u32;
+        psv0
+    }
+
     /// Where the string table's length stands.
     pub fn strings_at(&self) -> usize {
         let resources = if self.resources.is_empty() { 0 } else { 4 + self.resources.len() };
@@ -164,13 +176,98 @@ pub fn hull() -> Psv0 {
     psv0.resources = words(&[1, 2, 3, 4, 5, 6, 10, 20, 30, 40, 50, 60]);
     psv0.strings = b"\0main\0POS\0B\0\0".to_vec();
     psv0.strings.resize(16, 0);
-    psv0.indices = vec![2, 7, 8, 0, 1, 9];
-    psv0.elements = element(6, 0, [1, 2, 0xe3, 4, 5, 6, 0xff, 7]);
-    psv0.elements.extend(element(10, 3, [0, 0, 0x14, 0, 0, 0, 0x21, 0]));
-    psv0.elements.extend(element(0, 4, [255; 8]));
+    // The first and the last array share 73; the second is empty, at the end.
+    psv0.indices = vec![70, 71, 72, 73, 74, 75];
+    psv0.elements = element(6, 1, [3, 2, 0xe3, 4, 5, 6, 0xff, 7]);
+    psv0.elements.extend(element(10, 6, [0, 0, 0x14, 0, 0, 0, 0x21, 0]));
+    psv0.elements.extend(element(0, 3, [3, 255, 255, 255, 255, 255, 255, 255]));
     // w(9) = 2 words for masks 0 and 4, 2 * 3 * 4 = 24 for masks 5 and 9.
     psv0.masks = (0..4 * (2 + 2 + 24 + 24)).map(|i| i as u8).collect();
     psv0
+}
+
+/// Index references at the edges of the rule: N, i, rows, and whether i + rows
+/// is at most N.
+pub const INDEX_EDGES: [(u32, u32, u8, bool); 47] = [
+    // No number in the table.
+    (0, 0, 0, true),
+    (0, 1, 0, false),
+    (0, 0, 1, false),
+    (0, u32::MAX, 0, false),
+    (0, u32::MAX, 1, false),
+    // One, as in real shaders.
+    (1, 0, 1, true),
+    (1, 0, 2, false),
+    (1, 1, 1, false),
+    (1, 1, 0, true),
+    (1, 2, 0, false),
+    // The sum N, then N + 1.
+    (6, 0, 6, true),
+    (6, 0, 7, false),
+    (6, 1, 5, true),
+    (6, 1, 6, false),
+    (6, 3, 3, true),
+    (6, 3, 4, false),
+    (6, 5, 1, true),
+    (6, 5, 2, false),
+    (6, 6, 1, false),
+    // Rows 0: i inside, N, then N + 1.
+    (6, 0, 0, true),
+    (6, 5, 0, true),
+    (6, 6, 0, true),
+    (6, 7, 0, false),
+    // The most rows.
+    (254, 0, 255, false),
+    (255, 0, 255, true),
+    (255, 1, 255, false),
+    (300, 45, 255, true),
+    (300, 46, 255, false),
+    // References above one byte.
+    (300, 256, 44, true),
+    (300, 256, 45, false),
+    (300, 299, 1, true),
+    (300, 300, 0, true),
+    (300, 300, 1, false),
+    (300, 301, 0, false),
+    // Sums just below 2^32, and such as wrap at 32 bits to 0, 1, 6 and 254.
+    (6, u32::MAX, 0, false),
+    (6, u32::MAX - 255, 255, false),
+    (6, u32::MAX, 1, false),
+    (6, u32::MAX - 254, 255, false),
+    (6, u32::MAX, 2, false),
+    (6, u32::MAX, 7, false),
+    (300, u32::MAX, 255, false),
+    // References whose bytes, at 4i, wrap into the table.
+    (6, 1 << 30, 0, false),
+    (6, 1 << 30, 1, false),
+    (6, (1 << 30) + 6, 0, false),
+    (6, 1 << 31, 6, false),
+    (6, 3 << 30, 1, false),
+    (6, u32::MAX / 2, 0, false),
+];
+
+/// Five elements, two inputs, two outputs and one more. Number `place` has the
+/// reference and rows, the others as much of the table as they can. No number
+/// of the table is small enough for a count or a place in it.
+pub fn with_reference(n: u32, place: usize, i: u32, rows: u8) -> Psv0 {
+    let mut psv0 = Psv0::of_size(52);
+    psv0.runtime[28..31].copy_from_slice(&[2, 2, 1]);
+    psv0.strings = vec![0; 4];
+    psv0.indices = (0..n).map(|k| 0x9000_0000 + k).collect();
+    for e in 0..5 {
+        let (i, rows) = if e == place { (i, rows) } else { (0, n.min(255) as u8) };
+        psv0.elements.extend(element(0, i, [rows, 255, 255, 255, 255, 255, 255, 255]));
+    }
+    psv0
+}
+
+/// What the elements of `with_reference` show, where the reference is good.
+pub fn arrays_of(n: u32, place: usize, i: u32, rows: u8) -> Vec<Vec<u32>> {
+    let first = 0x9000_0000;
+    let whole: Vec<u32> = (first..first + n.min(255)).collect();
+    let mut arrays = vec![whole; 5];
+    arrays[place] = (first + i..first + i + u32::from(rows)).collect();
+    arrays
 }
 
 /// Repeatable numbers (xorshift with a multiplication at the end).
