@@ -513,7 +513,11 @@ fn indices() -> [u8; 24] {
 // Arrays of two numbers, none at the end of the table, one, all six, two and three.
 fn elements() -> [u8; 96] {
     let mut e = [0u8; 96];
-    put(&mut e, 0, b"\x06\x00\x00\x00\x01\x00\x00\x00\x02b\xe4cde\xd5f");
+    put(
+        &mut e,
+        0,
+        b"\x06\x00\x00\x00\x01\x00\x00\x00\x02b\xe4cde\xd5f",
+    );
     put(
         &mut e,
         16,

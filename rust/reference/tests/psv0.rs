@@ -583,24 +583,6 @@ fn index_arrays_at_every_edge_and_place() {
 }
 
 #[test]
-fn every_short_index_array() {
-    for n in 0..8 {
-        for i in 0..10 {
-            for rows in 0..10 {
-                let psv0 = with_reference(n, 2, i, rows);
-                if i + u32::from(rows) > n {
-                    refuses(&psv0.bytes(), 1, 23, 2);
-                } else {
-                    opened(&psv0, 1, |opening| {
-                        assert_eq!(opening.array(2).as_ref(), Ok(&arrays_of(n, 2, i, rows)[2]));
-                    });
-                }
-            }
-        }
-    }
-}
-
-#[test]
 fn index_arrays_may_share_numbers() {
     // One twice, one inside another, three that overlap, two side by side, and
     // empty ones inside and at the end.
