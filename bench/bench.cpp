@@ -1,4 +1,5 @@
-// Measures Qollqamir beside LLVM's reader (with -DWITH_LLVM), the independent reader and plain passes over the same bytes.
+// Measures Qollqamir beside LLVM's reader (with -DWITH_LLVM), the independent reader and plain passes over the same bytes; with
+// -DWITH_BEFORE, beside another build of itself, whose calls have `before_` in front of their names.
 // Contenders of a row take turns, round by round. A time is the median of the rounds; a ratio is the median of the rounds' ratios, which a
 // machine that slows down for a while disturbs less.
 #include "qollqamir.h"
@@ -434,9 +435,65 @@ static void handing_back(const std::filesystem::path &shader) {
            sizeof to, t[0], sizeof(qollqamir_found), t[1], t[2], t[3]);
 }
 
+#ifdef WITH_BEFORE
+extern "C" {
+qollqamir_opening before_qollqamir_open(const uint8_t *, size_t, size_t);
+qollqamir_opening before_qollqamir_psv0_open(const uint8_t *, size_t, size_t);
+qollqamir_span before_qollqamir_view(const uint8_t *, size_t, size_t, uint32_t, size_t);
+}
+
+// Openings now and before, in turns on the same bytes; of the real shaders the medians over them, and the greatest ratio.
+static void beside_before(const std::filesystem::path &folder) {
+    struct Pair {
+        const char *name;
+        std::vector<double> now, before, ratio;
+    };
+    std::vector<Pair> pairs;
+    auto add = [&](const char *name, const Call &now, const Call &before) {
+        auto t = measure({now, before});
+        auto it = std::find_if(pairs.begin(), pairs.end(), [&](const Pair &p) { return strcmp(p.name, name) == 0; });
+        if (it == pairs.end())
+            it = pairs.insert(it, Pair{name, {}, {}, {}});
+        it->now.push_back(t[0]);
+        it->before.push_back(t[1]);
+        it->ratio.push_back(t.ratio(0, 1));
+    };
+    auto all = [&](const char *open, const char *alone, const char *array, const Bytes &b) {
+        require(qollqamir_open(b.data(), b.size(), 3).verdict.number == 0, open);
+        require(before_qollqamir_open(b.data(), b.size(), 3).verdict.number == 0, open);
+        auto psv0 = qollqamir_table_part(b.data(), b.size(), reinterpret_cast<const uint8_t *>("PSV0"));
+        const uint8_t *data = b.data() + psv0.offset + 8;
+        size_t size = psv0.size;
+        add(open, open_at(b, 3), repeat([&] { return before_qollqamir_open(b.data(), b.size(), 3); }));
+        add(alone, repeat([=] { return qollqamir_psv0_open(data, size, 3); }), repeat([=] { return before_qollqamir_psv0_open(data, size, 3); }));
+        add(array, repeat([&] { return qollqamir_view(b.data(), b.size(), 3, QOLLQAMIR_ELEMENT_ARRAY, 0); }),
+            repeat([&] { return before_qollqamir_view(b.data(), b.size(), 3, QOLLQAMIR_ELEMENT_ARRAY, 0); }));
+    };
+    for (auto &entry : std::filesystem::directory_iterator(folder)) {
+        Bytes b = load(entry.path());
+        if (qollqamir_open(b.data(), b.size(), 3).verdict.number == 0)
+            all("real shaders, open", "real shaders, PSV0 alone", "real shaders, array of element 0", b);
+    }
+    all("765 elements, open", "765 elements, PSV0 alone", "765 elements, array of element 0", with_psv0(psv0_of(0, 765, 0, Bytes(16, 0), 1)));
+    printf("%-34s %11s %11s %9s %9s\n", "", "now", "before", "/before", "greatest");
+    for (auto &p : pairs) {
+        printf("%-34s", p.name);
+        cell(median(p.now));
+        cell(median(p.before));
+        ratio(median(p.ratio));
+        ratio(*std::max_element(p.ratio.begin(), p.ratio.end()));
+        printf("\n");
+    }
+}
+#endif
+
 int main(int argc, char **argv) {
     require(argc == 2, "the folder of the real shaders is missing");
     std::filesystem::path folder = argv[1];
+#ifdef WITH_BEFORE
+    beside_before(folder);
+    return 0;
+#endif
     real_shaders(folder);
     refusals(folder / "sdl_D3D12_VertexShader_YUV.dxbc");
     handing_back(folder / "sdl_D3D12_VertexShader_YUV.dxbc");
