@@ -7,7 +7,7 @@ use mathlib.Core.List.{List, []}
 use native.Mathlib.Omega.{arith}
 use native.Mathlib.Nat.{suc-mul, mul-le-mul-right}
 use lib.Dec.{ltb}
-use lib.ListN.{length, getD}
+use lib.ListN.{length, getD, take, drop}
 use borrow.Author.Tests.{eq-eqb, ne-eqb, lt-ltb, le-ltb, le-leb, lt-leb}
 use Rattle.wire.specs.Number.{u32At}
 use Rattle.wire.specs.Verdict.{_then_, check, when, from, each}
@@ -18,7 +18,7 @@ use Rattle.psv0_layout.specs.Judged.{fieldsJudged, elementJudged, elemen
 use Rattle.psv0_layout.specs.Layout.{Body, rows}
 use Rattle.psv0_layout.specs.Position.{NoZero, UpToLastZero, Judging}
 use Rattle.psv0_layout.specs.Reference.{stringGood}
-use Rattle.psv0_layout.proofs.Positions.{part-byte, part-u32, rows-length, rows-at}
+use Rattle.psv0_layout.proofs.Positions.{rows-length, rows-at}
 use Rattle.psv0_layout.proofs.References.{noZero-back, lastZero-found, string-good, stop-22, stop-23, go-on, judged-all}
 use Rattle.psv0_layout.specs.Given.{tables, sectionsJudged}
 
@@ -69,26 +69,27 @@ module _ (m x n s : ℕ) (e : List ℕ) (b : Body) (j : Judging b m x (rows 16 n
   count : length (b .elements) ≡ n
   count = rw (j .elements) (rows-length 16 n s e)
 
-  module _ (i at a : ℕ) (h : i < n) (p : at ≡ i * s) (ea : a ≡ u32At e at)
+  module _ (i at a : ℕ) (h : i < n) (p : at ≡ i * s) (ea : a ≡ nameOffset (take (at + 16 - at) (drop at e)))
       (so-far : each (elementJudged (b .strings) (b .indices) (b .elements)) i ≡ Accepted) where
     inside : i < length (b .elements)
     inside = rw count h
 
-    field : (o : ℕ) → o + 4 ≤ 16 → u32At (getD (b .elements) i []) o ≡ u32At e (at + o)
-    field o k = rw (j .elements, rows-at 16 n s e i h, part-u32 e (i * s) 16 o k, ← p)
+    element : take (at + 16 - at) (drop at e) ≡ getD (b .elements) i []
+    element = let w : at + 16 - at ≡ 16 = omega arith in rw (j .elements, rows-at 16 n s e i h, w, p)
 
     name : nameOffset (getD (b .elements) i []) ≡ a
-    name = field 0 (omega arith) ∙ rw native.Mathlib.Nat.add-zero (sym ea)
+    name = rw (← element) (sym ea)
 
     pub name-22 : m ≤ a → Refused 22 i ≡ elementsJudged b
     name-22 l = sym (stop-22 b i a _ _ so-far name refl refl inside (string-good (b .strings) m a (j .strings) ∙ le-ltb _ _ l))
 
-    module _ (l : a < m) (c r : ℕ) (ec : c ≡ u32At e (at + 4)) (er : r ≡ getD e (at + 8) 0) where
+    module _ (l : a < m) (c r : ℕ) (ec : c ≡ indexReference (take (at + 16 - at) (drop at e)))
+        (er : r ≡ rowCount (take (at + 16 - at) (drop at e))) where
       index : indexReference (getD (b .elements) i []) ≡ c
-      index = field 4 (omega arith) ∙ sym ec
+      index = rw (← element) (sym ec)
 
       count-of : rowCount (getD (b .elements) i []) ≡ r
-      count-of = rw (j .elements, rows-at 16 n s e i h, part-byte e (i * s) 16 8 (omega arith), ← p) (sym er)
+      count-of = rw (← element) (sym er)
 
       good : stringGood (b .strings) a ≡ true
       good = string-good (b .strings) m a (j .strings) ∙ lt-ltb _ _ l

@@ -400,16 +400,18 @@ fn string_end(t: &[u8]) -> usize
 
 // 22 and 23, element by element. Of the index table its count of numbers decides.
 fn judge_elements(end: usize, indices: usize, e: &[u8], stride: usize, count: usize) -> Verdict
-    requires { ⌜ count * stride ≤ length (now e) ⌝ }
+    requires { ⌜ (count * stride ≤ length (now e)) × (1 ≤ count → 16 ≤ stride) ⌝ }
     ensures { λ r. ⌜ ((b : Body) → Judging b end indices (rows 16 count stride (now (e .entry))) → r ≡ elementsJudged b) ⌝ }
 {
     let mut i = 0;
     let mut at = 0;
     while i < count {
-        if end <= wire::u32_at(e, at) as usize {
+        let known = at + 16;
+        let r = &e[at..known];
+        if end <= wire::u32_at(r, 0) as usize {
             return Verdict::Refused(22, i);
         }
-        if indices < wire::u32_at(e, at + 4) as usize + wire::byte_at(e, at + 8) as usize {
+        if indices < wire::u32_at(r, 4) as usize + wire::byte_at(r, 8) as usize {
             return Verdict::Refused(23, i);
         }
         i += 1;

@@ -26,43 +26,47 @@ abbrev μ-loop : tie.MeasureT-loop
 loop-holds : tie.Need-loop-holds Inv-loop μ-loop
 loop-holds c = (search needs, sym (zero-mul _), λ b j. unfold each in refl)
 
--- element i ends inside
+-- element i, with the bytes that are known of it, ends inside
 inside : (n : tie.In-loop Inv-loop μ-loop)
-    → let a = n .before .before .before .args in n .before .loop .i * a .stride + a .stride ≤ length (a .e .now)
+    → let a = n .before .before .before .args in
+    (n .before .loop .at + 16 ≤ length (a .e .now)) × (n .before .loop .at + a .stride ≤ length (a .e .now))
 inside n =
     let s = n .before .before .before in
-    stays-inside (n .before .loop .i) (s .args .count) (s .args .stride) (length (s .args .e .now)) (n .loop-test .taken) (s .pre)
+    let l = n .before .loop in
+    let end = stays-inside (l .i) (s .args .count) (s .args .stride) (length (s .args .e .now)) (n .loop-test .taken) (s .pre .0) in
+    let known = s .pre .1 (omega (arith, n .loop-test .taken)) in
+    (omega (arith, l .inv .1), omega (arith, l .inv .1))
+
+add-known : tie.Need-add-known Inv-loop μ-loop
+add-known n = omega (arith, inside n .0)
+
+part-r-end : tie.Need-part-r-end Inv-loop μ-loop
+part-r-end n = inside n .0
 
 returns : tie.Need-returns Inv-loop μ-loop
 returns c =
-    let n = c .before .before in
+    let n = c .before .before .before in
     let l = n .before .loop in
     λ b j. name-22 _ _ _ _ _ b j _ _ _ (n .loop-test .taken) (l .inv .1) (c .before .u32-at .ensures) (l .inv .2 b j) (c .if1 .taken)
-
-add-u32-at : tie.Need-add-u32-at Inv-loop μ-loop
-add-u32-at c = omega (arith, inside (c .before .before))
-
-add-byte-at : tie.Need-add-byte-at Inv-loop μ-loop
-add-byte-at c = omega (arith, inside (c .before .before .before))
 
 returns-2 : tie.Need-returns-2 Inv-loop μ-loop
 returns-2 c =
     let v = c .before .before in
     let t = v .before in
-    let n = t .before .before in
+    let n = t .before .before .before in
     let l = n .before .loop in
     λ b j.
     index-23 _ _ _ _ _ b j _ _ _ (n .loop-test .taken) (l .inv .1) (t .before .u32-at .ensures) (l .inv .2 b j) (t .if1 .left) _ _
     (v .u32-at2 .ensures) (c .before .byte-at .ensures) (c .if2 .taken)
 
 add-at : tie.Need-add-at Inv-loop μ-loop
-add-at c = omega (arith, inside (c .before .before .before .before .before))
+add-at c = omega (arith, inside (c .before .before .before .before .before .before) .1)
 
 loop-again : tie.Need-loop-again Inv-loop μ-loop
 loop-again c =
     let v = c .before .before in
     let t = v .before in
-    let n = t .before .before in
+    let n = t .before .before .before in
     let l = n .before .loop in (
       omega (arith, n .loop-test .taken),
       simp (add-one, suc-mul, l .inv .1),
@@ -85,13 +89,15 @@ judge-elements-spec =
     Inv-loop
     μ-loop
     loop-holds
+    add-known
+    (λ c. search needs)
+    (λ c. search needs)
+    part-r-end
     (λ c κs. search needs)
     (λ c. search needs)
     returns
-    add-u32-at
     (λ c κs. search needs)
     (λ c. search needs)
-    add-byte-at
     (λ c κs. search needs)
     (λ c. search needs)
     (λ c. search needs)
