@@ -440,9 +440,11 @@ extern "C" {
 qollqamir_opening before_qollqamir_open(const uint8_t *, size_t, size_t);
 qollqamir_opening before_qollqamir_psv0_open(const uint8_t *, size_t, size_t);
 qollqamir_span before_qollqamir_view(const uint8_t *, size_t, size_t, uint32_t, size_t);
+qollqamir_written before_qollqamir_write_psv0(size_t, const uint8_t *, size_t, const uint8_t *, size_t, const uint8_t *, size_t, const uint8_t *,
+                                              size_t, const uint8_t *, size_t, const uint8_t *, size_t, uint8_t *, size_t);
 }
 
-// Openings now and before, in turns on the same bytes; of the real shaders the medians over them, and the greatest ratio.
+// Openings and the PSV0 writer now and before, in turns on the same bytes; of the real shaders the medians over them, and the greatest ratio.
 static void beside_before(const std::filesystem::path &folder) {
     struct Pair {
         const char *name;
@@ -475,6 +477,26 @@ static void beside_before(const std::filesystem::path &folder) {
             all("real shaders, open", "real shaders, PSV0 alone", "real shaders, array of element 0", b);
     }
     all("765 elements, open", "765 elements, PSV0 alone", "765 elements, array of element 0", with_psv0(psv0_of(0, 765, 0, Bytes(16, 0), 1)));
+    // As much as may be opened and written: strings whose only zero is near the start.
+    Bytes start(16700000, 'a');
+    start[15] = 0;
+    Bytes b = with_psv0(psv0_of(0, 765, 0, start, 1)), out(b.size());
+    const uint8_t *s[6];
+    size_t n[6];
+    for (uint32_t k = 0; k < 6; k++) {
+        auto span = qollqamir_section(b.data(), b.size(), 3, k);
+        require(span.verdict.number == 0, "a long PSV0 has no sections");
+        s[k] = b.data() + span.start;
+        n[k] = span.len;
+    }
+    auto write = [&](auto call) {
+        return [&, call] {
+            return call(3, s[0], n[0], s[1], n[1], s[2], n[2], s[3], n[3], s[4], n[4], s[5], n[5], out.data(), out.size());
+        };
+    };
+    require(write(qollqamir_write_psv0)().verdict.number == 0 && write(before_qollqamir_write_psv0)().verdict.number == 0, "a long PSV0 is not written");
+    add("16 MB strings, open", open_at(b, 3), repeat([&] { return before_qollqamir_open(b.data(), b.size(), 3); }));
+    add("16 MB strings, write PSV0", repeat(write(qollqamir_write_psv0)), repeat(write(before_qollqamir_write_psv0)));
     printf("%-34s %11s %11s %9s %9s\n", "", "now", "before", "/before", "greatest");
     for (auto &p : pairs) {
         printf("%-34s", p.name);
