@@ -1,13 +1,17 @@
 //! A reader and writer of DirectX containers and their PSV0 part, and a reader
-//! of the DXIL part's header, written from documents 000, 001 and 01 and requests
-//! 1 and 2 of 02 alone. It is a second opinion: every rule stands here as
-//! directly as it can be said, so that another reader can be held against it.
+//! of the DXIL part's header and of the signature parts, written from documents
+//! 000, 001 and 01 and requests 1 to 3 of 02 alone. It is a second opinion: every
+//! rule stands here as directly as it can be said, so that another reader can be
+//! held against it.
 //!
 //! * [`table`] reads the part table (refusals 1 to 9).
 //! * [`open`] opens a whole container, [`open_psv0`] PSV0 data alone; both give
 //!   an [`Opening`], whose methods are the queries (refusal 26).
 //! * [`program`] reads the header of DXIL data (refusals 40 to 42), and
 //!   [`program_report`] that of a container, with both stages.
+//! * [`signature`] reads the data of a signature part (refusals 43 to 45),
+//!   [`signature_element`] one element of it by itself, [`signature_report`] a
+//!   part of a container; [`first_difference`] compares its names with PSV0's.
 //! * [`write_psv0`] and [`assemble`] write, and [`plain`] says whether PSV0 data
 //!   has the form in which the writer would write it.
 //! * [`show`] prints all that an opening and the report on the program show.
@@ -19,6 +23,7 @@
 mod program;
 mod psv0;
 mod show;
+mod signature;
 mod table;
 mod write;
 
@@ -28,6 +33,10 @@ pub use psv0::{
     Runtime,
 };
 pub use show::show;
+pub use signature::{
+    first_difference, signature, signature_element, signature_report, Signature, SignatureElement,
+    SignaturePart,
+};
 pub use table::{find, known, table, table_part, Part, KNOWN};
 pub use write::{assemble, plain, write_psv0};
 

@@ -433,7 +433,7 @@ fn read_later<'a>(cursor: &mut Cursor<'a>, runtime: &Runtime) -> Result<Later<'a
 
 /// The string at o: the bytes before the first zero at o or later. None when
 /// the reference isn't good.
-fn string_at(strings: &[u8], o: u32) -> Option<&[u8]> {
+pub(crate) fn string_at(strings: &[u8], o: u32) -> Option<&[u8]> {
     let from_o = strings.get(o as usize..)?;
     let length = from_o.iter().position(|byte| *byte == 0)?;
     Some(&from_o[..length])
