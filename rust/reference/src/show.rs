@@ -1,8 +1,7 @@
-//! All that an opening, its queries and the report on its program show, one item
-//! a line.
+//! All that an opening, its queries and the reports on its program and its
+//! signature parts show, one item a line.
 
-use crate::program::report;
-use crate::{known, open, Opening, Stages};
+use crate::{known, open, program, signature, Opening, SignaturePart, Stages};
 use std::fmt::Write;
 
 /// The lines for a container at an edition; every line ends with a line feed.
@@ -109,12 +108,16 @@ fn lines(opening: &Opening, text: &mut String) -> std::fmt::Result {
         };
         writeln!(text, "mask {number} {words}")?;
     }
-    program_lines(opening, text)
+    program_lines(opening, text)?;
+    for part in SignaturePart::ALL {
+        signature_lines(opening, part, text)?;
+    }
+    Ok(())
 }
 
 /// The program header, or its refusal.
 fn program_lines(opening: &Opening, text: &mut String) -> std::fmt::Result {
-    let report = match report(opening) {
+    let report = match program::report(opening) {
         Err(refusal) => return writeln!(text, "program {refusal}"),
         Ok(report) => report,
     };
@@ -133,7 +136,42 @@ fn program_lines(opening: &Opening, text: &mut String) -> std::fmt::Result {
     writeln!(text, "stages {stages}")
 }
 
-/// A number, or `unset`.
+/// A signature part and its first difference from PSV0, or its refusal. Each
+/// line names the part.
+fn signature_lines(opening: &Opening, part: SignaturePart, text: &mut String) -> std::fmt::Result {
+    let head = format!("signature {}", name(part.name()));
+    let signature = match signature::report(opening, part) {
+        Err(refusal) => return writeln!(text, "{head} {refusal}"),
+        Ok(signature) => signature,
+    };
+    writeln!(text, "{head} elements {}", signature.count)?;
+    for i in 0..signature.count {
+        let e = signature.element(i).expect("every element below the count is there");
+        write!(text, "{head} {i} name {}", value(e.name.map(quoted)))?;
+        let fields = [
+            ("name_offset", e.name_offset),
+            ("index", e.index),
+            ("stream", e.stream),
+            ("system_value", e.system_value),
+            ("component", e.component),
+            ("register", e.register),
+            ("mask", e.mask),
+            ("exclusive_mask", e.exclusive_mask),
+            ("precision", e.precision),
+        ];
+        for (field, number) in fields {
+            write!(text, " {field} {number}")?;
+        }
+        writeln!(text)?;
+    }
+    let first = match signature::difference(opening, part, &signature) {
+        Some(i) => i.to_string(),
+        None => String::from("none"),
+    };
+    writeln!(text, "{head} first_difference {first}")
+}
+
+/// A number or other text, or `unset`.
 fn value<T: std::fmt::Display>(number: Option<T>) -> String {
     match number {
         Some(number) => number.to_string(),

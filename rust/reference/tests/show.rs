@@ -19,6 +19,12 @@ mask 9 unset
 mask 10 unset
 ";
 
+/// The lines of a container without signature parts.
+const NO_SIGNATURES: &str = "signature ISG1 refused 26 0
+signature OSG1 refused 26 0
+signature PSG1 refused 26 0
+";
+
 #[test]
 fn edition_zero() {
     let expected = format!(
@@ -52,27 +58,59 @@ strings unset
 indices unset
 elements unset
 {UNSET_MASKS}program refused 40 0
-"
+{NO_SIGNATURES}"
     );
     for edition in 0..=3 {
         assert_eq!(show(&shader(&box_m().bytes()), edition), expected);
     }
 }
 
+/// Data of an ISG1 and a PSG1 part for the hull shader, whose one input is
+/// `POS`, and whose one patch element has an empty name. The unused bytes are
+/// 0xee.
+fn signatures() -> (Vec<u8>, Vec<u8>) {
+    let record = |name: u32| {
+        let mut record = words(&[1, name, 2, 3, 4, 5]);
+        record.extend_from_slice(&[6, 7, 0xee, 0xee, 8, 0, 0, 0]);
+        record
+    };
+    let mut greatest = vec![0xff; 32];
+    put4(&mut greatest, 4, 0);
+    let mut inputs = words(&[3, 8]);
+    inputs.extend([record(104), greatest, record(106)].concat());
+    inputs.extend_from_slice(b"POS\0");
+    let mut others = words(&[2, 8]);
+    others.extend([record(75), record(0)].concat());
+    others.extend_from_slice(b"xyz\0");
+    (inputs, others)
+}
+
 #[test]
 fn everything() {
     let data = hull().bytes();
     let code = dxil(3, b"bit");
-    let bytes = container(&[(b"\x20\x7f!~", b""), (b"DXIL", &code), (b"PSV0", &data)]);
+    let (inputs, others) = signatures();
+    let bytes = container(&[
+        (b"\x20\x7f!~", b""),
+        (b"DXIL", &code),
+        (b"PSV0", &data),
+        (b"OSG1", b"seven b"),
+        (b"PSG1", &others),
+        (b"ISG1", &inputs),
+    ]);
     let mask = |from: usize, words: usize| -> String {
         hull().masks[from..from + 4 * words].iter().map(|byte| format!("{byte:02x}")).collect()
     };
+    let psv0 = data.len();
     let expected = format!(
         "edition 3 read 3
-parts 3
-part 0 ??!~ 44 0 unknown
-part 1 DXIL 52 27 known
-part 2 PSV0 87 {} known
+parts 6
+part 0 ??!~ 56 0 unknown
+part 1 DXIL 64 27 known
+part 2 PSV0 99 {psv0} known
+part 3 OSG1 {} 7 known
+part 4 PSG1 {} 76 known
+part 5 ISG1 {} 108 known
 stage_info a0a1a2a3a4a5a6a7a8a9aaabacadaeaf
 minimum_wave_lanes 4
 maximum_wave_lanes 4294967295
@@ -121,8 +159,25 @@ mask 10 empty
 program version 6 5 stage 3 words 7
 bitcode version 1 7 offset 16 size 3
 stages equal
+signature ISG1 elements 3
+signature ISG1 0 name \"POS\" name_offset 104 index 2 stream 1 system_value 3 component 4 register 5 \
+mask 6 exclusive_mask 7 precision 8
+signature ISG1 1 name unset name_offset 0 index 4294967295 stream 4294967295 system_value 4294967295 \
+component 4294967295 register 4294967295 mask 255 exclusive_mask 255 precision 4294967295
+signature ISG1 2 name \"S\" name_offset 106 index 2 stream 1 system_value 3 component 4 register 5 \
+mask 6 exclusive_mask 7 precision 8
+signature ISG1 first_difference 2
+signature OSG1 refused 43 0
+signature PSG1 elements 2
+signature PSG1 0 name \"\" name_offset 75 index 2 stream 1 system_value 3 component 4 register 5 \
+mask 6 exclusive_mask 7 precision 8
+signature PSG1 1 name unset name_offset 0 index 2 stream 1 system_value 3 component 4 register 5 \
+mask 6 exclusive_mask 7 precision 8
+signature PSG1 first_difference none
 ",
-        data.len(),
+        107 + psv0,
+        107 + psv0 + 15,
+        107 + psv0 + 15 + 84,
         mask(0, 2),
         mask(8, 2),
         mask(16, 24),
@@ -137,13 +192,18 @@ stages equal
         .replace("kind 5 flags 6\n", "kind unset flags unset\n")
         .replace("kind 50 flags 60\n", "kind unset flags unset\n");
     assert_eq!(show(&bytes, 1), first);
+    // For reader 0 every name is missing in PSV0.
+    let shown = show(&bytes, 0);
+    assert!(shown.contains("\nsignature ISG1 first_difference 0\nsignature OSG1 refused 43 0\n"));
+    assert!(shown.ends_with("\nsignature PSG1 first_difference 0\n"));
 }
 
-/// What follows the line of mask 10.
+/// What follows the line of mask 10, up to the signature parts.
 fn after_masks(bytes: &[u8], edition: usize) -> String {
     let text = show(bytes, edition);
     let (_, rest) = text.split_once("\nmask 10 ").expect("it opens");
-    rest.split_once('\n').unwrap().1.to_string()
+    let rest = rest.split_once('\n').unwrap().1;
+    rest.strip_suffix(NO_SIGNATURES).expect("none has a signature part").to_string()
 }
 
 #[test]
@@ -175,6 +235,53 @@ bitcode version 254 255 offset 3 size 20
     assert_eq!(after_masks(&with(&code, &box_c()), 1), "program refused 41 0\n");
     assert_eq!(after_masks(&with(&code[..23], &box_c()), 1), "program refused 40 0\n");
     assert_eq!(show(&with(&[], &box_c()), 1), "refused 10 0\n");
+}
+
+#[test]
+fn the_signature_parts() {
+    let psv0 = box_c().bytes();
+    let lines = |parts: [Option<&[u8]>; 3]| {
+        let names = [b"ISG1", b"OSG1", b"PSG1"];
+        let mut all: Vec<(&[u8; 4], &[u8])> = vec![(b"PSV0", &psv0), (b"DXIL", b"code")];
+        all.extend((0..3).rev().filter_map(|i| parts[i].map(|data| (names[i], data))));
+        let text = show(&container(&all), 3);
+        text.split_once("\nprogram refused 40 0\n").unwrap().1.to_string()
+    };
+    assert_eq!(lines([None; 3]), NO_SIGNATURES);
+    let empty = words(&[0, 8]);
+    let mut bad = words(&[2, 8]);
+    bad.extend(vec![0; 64]);
+    put4(&mut bad, 44, 72);
+    assert_eq!(
+        lines([Some(&empty), Some(&bad[..71]), Some(&bad)]),
+        "signature ISG1 elements 0
+signature ISG1 first_difference none
+signature OSG1 refused 44 0
+signature PSG1 refused 45 1
+"
+    );
+    assert_eq!(
+        lines([Some(&empty[..7]), None, Some(&empty)]),
+        "signature ISG1 refused 43 0
+signature OSG1 refused 26 0
+signature PSG1 elements 0
+signature PSG1 first_difference none
+"
+    );
+    // Names are quoted as strings are.
+    let mut quoted = words(&[1, 8]);
+    quoted.extend(vec![0; 32]);
+    put4(&mut quoted, 12, 40);
+    quoted.extend_from_slice(b" ~\"\\a\x1f\x7f\x80\xff\n\0\0");
+    assert_eq!(
+        lines([None, Some(&quoted), None]),
+        r#"signature ISG1 refused 26 0
+signature OSG1 elements 1
+signature OSG1 0 name " ~\x22\x5ca\x1f\x7f\x80\xff\x0a" name_offset 40 index 0 stream 0 system_value 0 component 0 register 0 mask 0 exclusive_mask 0 precision 0
+signature OSG1 first_difference 0
+signature PSG1 refused 26 0
+"#
+    );
 }
 
 #[test]

@@ -7,6 +7,7 @@ use reference::{
     first_difference, open, signature, signature_element, signature_report, SignatureElement,
     SignaturePart,
 };
+use std::path::Path;
 
 const PARTS: [SignaturePart; 3] = SignaturePart::ALL;
 
@@ -741,4 +742,47 @@ fn any_bytes_get_one_answer() {
         }
     }
     assert!(reached.iter().all(|count| *count > 2_000), "{reached:?}");
+}
+
+#[test]
+fn real_shaders() {
+    let directory = Path::new(env!("CARGO_MANIFEST_DIR")).join("../../tests/vectors/real");
+    let mut shaders = 0;
+    for entry in std::fs::read_dir(directory).expect("the vectors are there") {
+        let path = entry.unwrap().path();
+        let file = path.file_name().unwrap().to_str().unwrap().to_string();
+        let bytes = std::fs::read(&path).unwrap();
+        if file.contains("RootSig") {
+            for part in PARTS {
+                assert_eq!(signature_report(&bytes, 3, part), refused(10, 0), "{file}");
+            }
+            continue;
+        }
+        // What a compiler names, and how: PSV0 has an empty name for each SV_.
+        let (inputs, outputs) = if file.contains("VertexShader") {
+            (&["POSITION", "TEXCOORD", "COLOR"][..], &["SV_Position", "TEXCOORD", "COLOR"][..])
+        } else {
+            (&["SV_Position", "TEXCOORD", "COLOR"][..], &["SV_Target"][..])
+        };
+        for edition in 0..=3 {
+            for (part, names) in PARTS.into_iter().zip([inputs, outputs]) {
+                let report = signature_report(&bytes, edition, part).unwrap();
+                assert_eq!(report.count, names.len());
+                for (i, name) in names.iter().enumerate() {
+                    assert_eq!(report.name(i), Ok(name.as_bytes()), "{file}");
+                    let element = report.element(i).unwrap();
+                    assert_eq!((element.index, element.component), (0, 3), "{file}");
+                    assert_eq!(element.register as usize, i, "{file}");
+                    assert_eq!(element.system_value == 0, !name.starts_with("SV_"), "{file}");
+                }
+                let equal = edition > 0 && !names[0].starts_with("SV_");
+                let expected = if equal { None } else { Some(0) };
+                assert_eq!(first_difference(&bytes, edition, part), Ok(expected), "{file}");
+            }
+            let patch = signature_report(&bytes, edition, SignaturePart::Patch);
+            assert_eq!(patch, refused(26, 0), "{file}");
+        }
+        shaders += 1;
+    }
+    assert_eq!(shaders, 7);
 }
