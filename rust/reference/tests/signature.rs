@@ -4,8 +4,8 @@
 mod common;
 use common::*;
 use reference::{
-    first_difference, open, signature, signature_element, signature_report, SignatureElement,
-    SignaturePart,
+    first_difference, open, signature, signature_element, signature_report, table_part,
+    SignatureElement, SignaturePart,
 };
 use std::path::Path;
 
@@ -742,6 +742,21 @@ fn any_bytes_get_one_answer() {
         }
     }
     assert!(reached.iter().all(|count| *count > 2_000), "{reached:?}");
+}
+
+#[test]
+fn malformed_signatures_of_llvm() {
+    // Ten elements, of which one fits; one element whose offset is the strings'.
+    let directory = Path::new(env!("CARGO_MANIFEST_DIR")).join("../../tests/vectors/llvm");
+    for (number, first) in [(0, Ok(Some(&b"AAA"[..]))), (1, refused(44, 0))] {
+        let file = format!("llvm19_unit_MalformedSignature_{number}_refit.bin");
+        let bytes = std::fs::read(directory.join(file)).expect("the vectors are there");
+        // Without a DXIL part it doesn't open, but it has a table.
+        assert_eq!(signature_report(&bytes, 3, SignaturePart::Input), refused(10, 0));
+        let (_, data) = table_part(&bytes, *b"ISG1").unwrap();
+        assert_eq!(signature(data), refused(44, 0));
+        assert_eq!(signature_element(data, 0).map(|element| element.name), first);
+    }
 }
 
 #[test]
