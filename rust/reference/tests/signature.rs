@@ -151,7 +151,11 @@ fn the_end_of_the_elements() {
                 refuses(&data(count as u32, offset, &rest), 44, 0);
             }
             refuses(&data(count as u32 + 1, last, &rest), 44, 0);
-            refuses(&data(count as u32 + 1, last - 31, &rest), 44, 0);
+            // One element more, with one byte too few and with just enough.
+            refuses(&data(count as u32 + 1, last.saturating_sub(31), &rest), 44, 0);
+            if last >= 32 {
+                accepts(&data(count as u32 + 1, last - 32, &rest), &vec![None; count + 1]);
+            }
             accepts(&data(count as u32 - 1, last, &rest), &vec![None; count - 1]);
             // One byte less, at the end.
             refuses(&data(count as u32, last, &rest)[..length - 1], 44, 0);
