@@ -44,9 +44,16 @@ def with_psv0(data):
     return box([PROGRAM, (b"PSV0", data)])
 
 
+def signature(elements, tail, offset=8):
+    """Data of a signature part: elements of nine numbers, name offset second, and the bytes after them."""
+    records = b"".join(words(*e[:6]) + bytes([*e[6:8], 1, 2]) + word(e[8]) for e in elements)
+    return words(len(elements), offset) + bytes(offset - 8) + records + tail
+
+
 def hull():
     """A hull shader with something at every line of `show`: PSV0 data off every multiple of 4, records longer than the known ones,
-    strings with bytes that don't print, index arrays of 0 (at the table's end), 1 and 3 numbers, view and input masks."""
+    strings with bytes that don't print, index arrays of 0 (at the table's end), 1 and 3 numbers, view and input masks. ISG1: PSV0's name,
+    no name, and one past PSV0's list; OSG1: an empty name, in the header, as PSV0 has it; PSG1: a bad name, the second."""
     stage, view, patch = 3, 1, 2
     record = bytes(range(16)) + words(4, 0xFFFFFFFF) + bytes([stage, view, patch, 0, 2, 1, 1, 1, 9, 0, 0, 0]) + words(7, 8, 9, 20)
     resources = words(2, 0, 0, 0, 13, 0, 99) + words(3, 1, 5, 0xFFFFFFFF, 2, 1, 99)
@@ -65,4 +72,18 @@ def hull():
     masks = words(0x12345678, 1) + words(3) + words(*range(8)) + words(*range(256, 260))
     data = words(52) + record + words(2, 28) + resources + words(len(strings)) + strings
     data += words(len(indices) // 4) + indices + words(20) + elements + masks + b"\xee"
-    return box([(b"SFI0", b"\1\2\3\4"), (b"DXIL", b"\5"), (b"PSV0", data), (b"!\x20\x7f\xff", b"")])
+    most = 0xFFFFFFFF
+    inputs = [(0, 105, 0, 1, 2, 3, 15, 3, 4), (most, 0, most, most, most, most, 255, 254, most), (3, 114, 2, 0, 0, 0, 0, 0, 0)]
+    outputs = [(0, 3, 1, 64, 3, 0, 7, 0, 1)]
+    patches = [(0, 74, 0, 0, 0, 0, 0, 0, 0), (0, 75, 0, 0, 0, 0, 0, 0, 0)]
+    return box(
+        [
+            (b"SFI0", b"\1\2\3\4"),
+            (b"DXIL", b"\5"),
+            (b"PSV0", data),
+            (b"!\x20\x7f\xff", b""),
+            (b"ISG1", signature(inputs, strings[1:10] + b"!\x80\0", 9)),
+            (b"OSG1", signature(outputs, b"")),
+            (b"PSG1", signature(patches, b"ab\0c")),
+        ]
+    )

@@ -19,6 +19,7 @@ SHOWN_M = (
     "output_vectors_0 unset\noutput_vectors_1 unset\noutput_vectors_2 unset\noutput_vectors_3 unset\n"
     "threads_x unset\nthreads_y unset\nthreads_z unset\nentry_name_offset unset\nentry_name unset\n"
     "resources 0\nstrings unset\nindices unset\nelements unset\n" + "".join(f"mask {m} unset\n" for m in range(11)) + "program refused 40 0\n"
+    "signature ISG1 refused 26 0\nsignature OSG1 refused 26 0\nsignature PSG1 refused 26 0\n"
 )
 SHOWN_LONGEST = SHOWN_M.replace(
     "parts 2\npart 0 DXIL 40 4 known\npart 1 PSV0 52 32 known\n",

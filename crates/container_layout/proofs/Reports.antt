@@ -3,26 +3,29 @@
 -- Assumes nothing.
 use Prim.Native.Nat.{ℕ, _+_, _-_, _≤_}
 use mathlib.Core.Path.{_≡_, refl, sym, _∙_}
+use mathlib.Core.Bool.{true, true≢false}
 use mathlib.Core.List.{List}
 use native.Mathlib.Omega.{arith}
-use lib.ListN.{take, drop}
+use lib.ListN.{length, take, drop, length-drop}
+use lib.Seq.{length-take-le}
 use Rattle.constants.specs.Edition.{sizeOf}
 use Rattle.wire.specs.Number.{u32At}
 use Rattle.wire.specs.Verdict.{_then_, check}
 use Rattle.wire.specs.declared.Verdict.{Verdict}
 use Rattle.wire.specs.declared.Verdict.the-variants.{Accepted, Refused}
-use Rattle.wire.proofs.Verdicts.{then-accepted, stop-then}
+use Rattle.wire.proofs.Verdicts.{then-accepted, check-then, stop-then}
 use Rattle.part_table_layout.specs.Lookup.{find, partAt, partIf, dataIf}
 use Rattle.part_table_layout.specs.declared.Found.{Found}
 use Rattle.part_table_layout.specs.declared.Found.the-variants.{At, Nothing}
 use Rattle.part_table_layout.specs.declared.Part.{Part}
 use Rattle.part_table_layout.proofs.Lookups.{find-told}
+use Rattle.psv0_layout.proofs.Positions.{part-part}
 use Rattle.container_layout.specs.Container.{psv0, isThere, startFound, dataFound, psvOf, containerJudged, containerPart, partDataOf}
 use Rattle.container_layout.specs.Report.{dataNamed, reported}
 use Rattle.container_layout.specs.Widened.{WiderContainer}
 use Rattle.container_layout.proofs.Containers.{find-same}
 use Rattle.container_layout.proofs.Demand3.{editions-agree, widening-kept}
-use Rattle.container_layout.proofs.Parts.{opens, shown-part, part-data}
+use Rattle.container_layout.proofs.Parts.{opens, shown-part, part-fits, part-data}
 
 module _ (judge : List ℕ → Verdict) (x : ℕ) where
   -- a report on bytes that open
@@ -124,3 +127,42 @@ module _ (judge : List ℕ → Verdict) (k : ℕ) (b : List ℕ) (x : ℕ) {r : 
   pub data-reported : r .verdict ≡ Accepted → judge (dataNamed b x) ≡ reported judge x k b
   unfolding _then_
   data-reported h = sym (reported-is ∙ rw h)
+
+-- ---- a report that accepts: the part's data are accepted, lie inside the container and are its bytes there
+module _ (judge : List ℕ → Verdict) (x : ℕ) (k : ℕ) (b : List ℕ) (a : reported judge x k b ≡ Accepted) where
+  there-judged : (isThere (find b x) ≡ true) × (judge (dataNamed b x) ≡ Accepted)
+  there-judged = check-then _ _ _ _ (sym (reported-open judge x k b (reported-opens judge x k b a)) ∙ a)
+
+  pub reported-judged : judge (dataNamed b x) ≡ Accepted
+  reported-judged = there-judged .1
+
+  part-there : containerPart k b x .verdict ≡ Accepted
+  unfolding containerPart
+  part-there = rw (reported-opens judge x k b a) (go (find b x) (there-judged .0))
+    where
+      go : (f : Found) → isThere f ≡ true → partAt b f .verdict ≡ Accepted
+      go (At i) t = refl
+      go Nothing t = absurd (true≢false (sym t))
+
+  abbrev from : ℕ
+  from = containerPart k b x .offset + 8
+
+  data-is : take (containerPart k b x .size) (drop from b) ≡ dataNamed b x
+  data-is =
+      let z : from + containerPart k b x .size - from ≡ containerPart k b x .size = omega arith in
+      rw z at (data-there k b x refl part-there)
+
+  pub reported-size : length (dataNamed b x) ≡ containerPart k b x .size
+  reported-size =
+      rw (← data-is) (length-take-le _ _ (let f = part-fits k b x refl part-there in rw length-drop (omega arith)))
+
+  pub reported-inside : startFound b (find b x) + length (dataNamed b x) ≤ length b
+  reported-inside = rw (← (starts-at k b x refl part-there), reported-size) (part-fits k b x refl part-there)
+
+  pub reported-bytes : take (length (dataNamed b x)) (drop (startFound b (find b x)) b) ≡ dataNamed b x
+  reported-bytes = rw (← (starts-at k b x refl part-there), reported-size) data-is
+
+  -- a part of the data is as long a part of the container
+  pub reported-part : (o n : ℕ) → o + n ≤ length (dataNamed b x)
+      → take n (drop (startFound b (find b x) + o) b) ≡ take n (drop o (dataNamed b x))
+  reported-part o n h = sym (part-part b (startFound b (find b x)) (length (dataNamed b x)) o n h) ∙ rw reported-bytes

@@ -2,7 +2,6 @@
 -- Assumes nothing.
 use Prim.Native.Nat.{ℕ, _+_, _-_, _≤_}
 use mathlib.Core.Path.{_≡_, refl, sym, _∙_, ap}
-use mathlib.Core.Bool.{true, true≢false}
 use mathlib.Core.List.{List, []}
 use native.Mathlib.Omega.{arith}
 use lib.ListN.{length, take, drop, length-take, length-drop}
@@ -11,8 +10,7 @@ use Rattle.wire.specs.Number.{u32At}
 use Rattle.wire.specs.Verdict.{_then_, check}
 use Rattle.wire.specs.declared.Verdict.{Verdict}
 use Rattle.wire.specs.declared.Verdict.the-variants.{Accepted, Refused}
-use Rattle.wire.proofs.Verdicts.{check-then}
-use Rattle.part_table_layout.specs.Lookup.{find, partAt}
+use Rattle.part_table_layout.specs.Lookup.{find}
 use Rattle.part_table_layout.specs.declared.Found.{Found}
 use Rattle.part_table_layout.specs.declared.Found.the-variants.{At, Nothing}
 use Rattle.part_table_layout.specs.declared.Part.{Part}
@@ -20,11 +18,10 @@ use Rattle.psv0_layout.specs.Answers.{infoOf, infoAnswerOf, bytesBeside}
 use Rattle.psv0_layout.specs.declared.Field.{Field}
 use Rattle.psv0_layout.specs.declared.Field.the-variants.{Set}
 use Rattle.psv0_layout.specs.declared.InfoAnswer.{InfoAnswer}
-use Rattle.psv0_layout.proofs.Positions.{part-part}
 use Rattle.container_layout.specs.Container.{dxil, isThere, startFound, dataFound, containerJudged, containerAnswered, containerPart, partDataOf}
 use Rattle.container_layout.specs.Report.{dataNamed, reported}
 use Rattle.container_layout.proofs.Parts.{part-fits, part-short}
-use Rattle.container_layout.proofs.Reports.{reported-open, reported-opens, reported-refused, no-report, data-reported, starts-at, data-there, opened-data}
+use Rattle.container_layout.proofs.Reports.{reported-open, reported-refused, no-report, data-reported, starts-at, data-there, opened-data, reported-judged, reported-inside, reported-part}
 use Rattle.dxil_layout.specs.Program.{bitcodeStart, programJudged, programIf, programOf, bitcodeOf}
 use Rattle.dxil_layout.specs.declared.Program.{Program}
 use Rattle.dxil_layout.proofs.Programs.{judged-is, stretch-inside}
@@ -115,44 +112,21 @@ bitcode-is k b = go (containerJudged k b) refl
 
 -- ---- the stretch that a report shows lies inside the container and is the bitcode
 module _ (k : ℕ) (b : List ℕ) (a : programReported k b ≡ Accepted) where
-  there : (isThere (find b dxil) ≡ true) × (programJudged (dataNamed b dxil) ≡ Accepted)
+  judged : programJudged (dataNamed b dxil) ≡ Accepted
   unfolding programReported
-  there = check-then _ _ _ _ (sym (reported-open programJudged dxil k b (reported-opens programJudged dxil k b a)) ∙ a)
-
-  part-there : containerPart k b dxil .verdict ≡ Accepted
-  unfolding containerPart programReported
-  part-there = rw (reported-opens programJudged dxil k b a) (go (find b dxil) (there .0))
-    where
-      go : (f : Found) → isThere f ≡ true → partAt b f .verdict ≡ Accepted
-      go (At i) t = refl
-      go Nothing t = absurd (true≢false (sym t))
-
-  abbrev from : ℕ
-  from = containerPart k b dxil .offset + 8
-
-  abbrev size : ℕ
-  size = containerPart k b dxil .size
-
-  data-is : take size (drop from b) ≡ dataNamed b dxil
-  data-is =
-      let z : from + size - from ≡ size = omega arith in
-      rw z at (data-there k b dxil refl part-there)
+  judged = reported-judged programJudged dxil k b a
 
   ends : bitcodeStart (dataNamed b dxil) + u32At (dataNamed b dxil) 20 ≤ length (dataNamed b dxil)
   unfolding programOf
-  ends = let j = there .1 in stretch-inside (dataNamed b dxil) {p = programIf Accepted (dataNamed b dxil)} (rw j) refl
-
-  ends-in-part : bitcodeStart (dataNamed b dxil) + u32At (dataNamed b dxil) 20 ≤ size
-  ends-in-part = let e : length (take size (drop from b)) ≡ length (dataNamed b dxil) = ap length data-is in omega (arith, ends, simp length-take at e)
+  ends = let j = judged in stretch-inside (dataNamed b dxil) {p = programIf Accepted (dataNamed b dxil)} (rw j) refl
 
   accepted-inside : startFound b (find b dxil) + bitcodeStart (dataNamed b dxil) + u32At (dataNamed b dxil) 20 ≤ length b
-  accepted-inside = rw (← (starts-at k b dxil refl part-there)) (omega (arith, ends-in-part, part-fits k b dxil refl part-there))
+  unfolding programReported
+  accepted-inside = omega (arith, ends, reported-inside programJudged dxil k b a)
 
   accepted-bytes : take (u32At (dataNamed b dxil) 20) (drop (startFound b (find b dxil) + bitcodeStart (dataNamed b dxil)) b) ≡ bitcodeOf (dataNamed b dxil)
-  unfolding bitcodeOf
-  accepted-bytes =
-      rw (← (starts-at k b dxil refl part-there), there .1)
-      (sym (part-part b from size (bitcodeStart (dataNamed b dxil)) (u32At (dataNamed b dxil) 20) ends-in-part) ∙ rw data-is)
+  unfolding bitcodeOf programReported
+  accepted-bytes = rw judged (reported-part programJudged dxil k b a (bitcodeStart (dataNamed b dxil)) (u32At (dataNamed b dxil) 20) ends)
 
 pub stretch-inside-container : (k : ℕ) (b : List ℕ) → programReportOf k b .start + programReportOf k b .len ≤ length b
 unfolding programReportOf

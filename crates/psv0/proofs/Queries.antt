@@ -21,7 +21,7 @@ use Rattle.psv0_layout.specs.Layout.{sections, seen, bodyOf, guideOf}
 use Rattle.psv0_layout.specs.Reference.{stringAt, stringGood, arrayAt}
 use Rattle.psv0_layout.specs.Shown.{Value, unset, number, view, stageUnion, ofElement, entryName, mask, setIf, maskAt, value, shownAt}
 use Rattle.psv0_layout.proofs.Positions.{part-part, rows-length, row-at, runtime-at, runtime-u32, guide-seen}
-use Rattle.psv0_layout.proofs.References.{string-inside}
+use Rattle.psv0_layout.proofs.References.{string-inside, string-is}
 use Rattle.psv0_sections.specs.Places.{headPlaces}
 use Rattle.psv0_sections.specs.declared.Places.{Places}
 use Rattle.psv0_layout.specs.Answers.{fieldOf, infoOf, resourceOf, elementOf, lengthsOf, resourceAnswerOf, elementAnswerOf, SpanShows, refusedResource, refusedElement, refusedSpan}
@@ -191,19 +191,14 @@ module _ {d : List ℕ} {p : Places} (g : Reading d p) where
 
   -- ---- strings and arrays, at good references
   module _ (h : 1 ≤ p .edition) where
-    pub string-room : (o : ℕ) → stringGood (sections d .strings) o ≡ true → o ≤ length (take (p .strings + p .«string_bytes» - p .strings) (drop (p .strings) d))
-    string-room o e = rw (slice-size (p .strings) (p .«string_bytes»), body g h .strings) (omega (arith, string-inside (sections d .strings) o e))
-
-    pub string-read : (o n : ℕ)
-        → (o + n ≤ length (take (p .strings + p .«string_bytes» - p .strings) (drop (p .strings) d)))
-        × (stringAt (take (p .strings + p .«string_bytes» - p .strings) (drop (p .strings) d)) o
-        ≡ take n (drop o (take (p .strings + p .«string_bytes» - p .strings) (drop (p .strings) d))))
+    pub string-read : (o n : ℕ) → stringGood (sections d .strings) o ≡ true
+        → n ≡ length (stringAt (take (p .strings + p .«string_bytes» - p .strings) (drop (p .strings) d)) o)
         → SpanShows d Accepted (stringAt (sections d .strings) o) (acceptedSpan (p .strings + o) n)
-    string-read o n q =
+    string-read o n e q =
         let b = body g h in
         let t = slice-size (p .strings) (p .«string_bytes») in
-        string-shows d (sections d .strings) (p .strings) (p .«string_bytes») (b .strings) (b .stringsFit) o n
-        (rw (t, b .strings) at (q .0)) (rw (t, b .strings) at (q .1))
+        let (i, r) = string-is (sections d .strings) o n (rw (t, b .strings) at q) (omega (arith, string-inside (sections d .strings) o e)) in
+        string-shows d (sections d .strings) (p .strings) (p .«string_bytes») (b .strings) (b .stringsFit) o n i r
 
   -- element i of the list is e, its index reference c, its rows r
   pub array-read : (i : ℕ) → i < p .«element_count» → {e : List ℕ} (c r : ℕ)

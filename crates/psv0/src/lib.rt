@@ -285,23 +285,6 @@ fn element_at(r: &[u8]) -> ElementRecord
     }
 }
 
-// The length of the string at o in the string table t: up to the first zero byte.
-fn string_len(t: &[u8], o: usize) -> usize
-    requires { ⌜ o ≤ length (now t) ⌝ }
-    ensures { λ n. ⌜ (o + n ≤ length (now (t .entry))) × (stringAt (now (t .entry)) o ≡ take n (drop o (now (t .entry)))) ⌝ }
-{
-    let mut n = 0;
-    let mut i = o;
-    while i < t.len() {
-        if t[i] == 0 {
-            return n;
-        }
-        n += 1;
-        i += 1;
-    }
-    n
-}
-
 // ---- queries of data d that a reading accepts, whose sections lie at the places p
 
 fn info_in(d: &[u8], p: Places) -> RuntimeInfo
@@ -387,7 +370,7 @@ fn string_span(d: &[u8], p: Places, o: usize) -> Span
 {
     let start = p.strings;
     let end = start + p.string_bytes;
-    let len = string_len(&d[start..end], o);
+    let len = strings::len_at(&d[start..end], o);
     accepted_span(start + o, len)
 }
 

@@ -4,6 +4,7 @@ pub mod Editions
 pub mod Fields
 pub mod Judgements
 pub mod Layouts
+pub mod Listed
 pub mod Masks
 pub mod Opened
 pub mod Positions

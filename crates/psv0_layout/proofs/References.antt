@@ -1,7 +1,7 @@
 -- String and index references, by position in the tables; and the loop that judges the references of the elements.
 -- Assumes nothing.
-use Prim.Native.Nat.{ℕ, zero, suc, _+_, _-_, _*_, _≤_, _<_}
-use mathlib.Core.Path.{_≡_, refl, ap}
+use Prim.Native.Nat.{ℕ, zero, suc, _+_, _-_, _*_, _≤_, _<_, compare·suc-suc}
+use mathlib.Core.Path.{_≡_, refl, sym, ap}
 use mathlib.Core.Bool.{Bool, true, false, _&&_}
 use mathlib.Core.List.{List, [], _∷_}
 use mathlib.Core.Logic.{inl, inr, ⊎-elim}
@@ -11,7 +11,7 @@ use native.Mathlib.Nat.{eq-or-lt-of-le}
 use lib.Dec.{ltb}
 use lib.ListN.{length, getD, take, drop, length-drop}
 use lib.Seq.{getD-drop}
-use borrow.Author.Tests.{lt-ltb, le-leb, lt-leb, leb-true, ltb-true, ltb-false}
+use borrow.Author.Tests.{lt-ltb, le-ltb, le-leb, lt-leb, leb-true, ltb-true, ltb-false}
 use Rattle.wire.specs.Number.{u32At}
 use Rattle.wire.specs.Verdict.{_then_, check, each}
 use Rattle.wire.specs.declared.Verdict.the-variants.{Accepted, Refused}
@@ -38,17 +38,18 @@ zero-out [] h = refl
 zero-out (zero ∷ l) h = absurd (h 0 (omega arith) (omega arith) refl)
 zero-out (suc x ∷ l) h = zero-out l (λ i a b e. h (suc i) (omega arith) (omega arith) e)
 
--- the bytes before the first zero, or all of them
-until-first : (l : List ℕ) (n : ℕ) → n ≤ length l → (n < length l → getD l n 0 ≡ 0) → NoZero l 0 n → untilZero l ≡ take n l
+-- the bytes before the first zero stand in front, and there is a zero exactly where something follows them
+until-front : (l : List ℕ) → (length (untilZero l) ≤ length l) × (untilZero l ≡ take (length (untilZero l)) l)
 unfolding untilZero
-until-first [] zero h z f = refl
-until-first [] (suc n) h z f = absurd (omega arith)
-until-first (zero ∷ l) zero h z f = refl
-until-first (suc x ∷ l) zero h z f = absurd (let e : suc x ≡ 0 = z (omega arith) in omega arith)
-until-first (zero ∷ l) (suc n) h z f = absurd (f 0 (omega arith) (omega arith) refl)
-until-first (suc x ∷ l) (suc n) h z f =
-    ap (λ (r : List ℕ). suc x ∷ r)
-    (until-first l n (omega arith) (λ a. z (omega arith)) (λ i a b e. f (suc i) (omega arith) (omega arith) e))
+until-front [] = (omega arith, refl)
+until-front (zero ∷ l) = (omega arith, refl)
+until-front (suc x ∷ l) = let (h, e) = until-front l in (omega arith, ap (λ (r : List ℕ). suc x ∷ r) e)
+
+zero-follows : (l : List ℕ) → hasZero l ≡ ltb (length (untilZero l)) (length l)
+unfolding hasZero untilZero
+zero-follows [] = refl
+zero-follows (zero ∷ l) = sym (lt-ltb 0 (suc (length l)) (omega arith))
+zero-follows (suc x ∷ l) = rw compare·suc-suc (zero-follows l)
 
 -- ---- zero bytes of t from a position on
 zero-from : (t : List ℕ) (o j : ℕ) → o ≤ j → j < length t → getD t j 0 ≡ 0 → hasZero (drop o t) ≡ true
@@ -64,10 +65,6 @@ no-zero-from t o f =
 module _ (t : List ℕ) where
   pub noZero-begin : (i : ℕ) → NoZero t i i
   noZero-begin i j a b e = absurd (omega arith)
-
-  pub noZero-on : (i n : ℕ) → NoZero t i n → (getD t n 0 ≡ 0 → ⊥) → NoZero t i (n + 1)
-  noZero-on i n f g j a b e =
-      ⊎-elim (λ q. g (rw q at e)) (λ l. f j a l e) (eq-or-lt-of-le (let h : j ≤ n = omega arith in h))
 
   pub noZero-back : (i n : ℕ) → NoZero t (i + 1) n → (getD t i 0 ≡ 0 → ⊥) → NoZero t i n
   noZero-back i n f g j a b e =
@@ -104,20 +101,52 @@ string-good t m o u = go (ltb o m) refl
         let z : hasZero (drop o t) ≡ false = no-zero-from t o (λ j a. u .none j (omega arith)) in
         rw z (neither (ltb o (length t)))
 
--- the string goes up to the first zero byte, or to the end where there is none
-pub string-is : (t : List ℕ) (o e : ℕ) → o ≤ e → e ≤ length t → (e < length t → getD t e 0 ≡ 0) → NoZero t o e
-    → stringAt t o ≡ take (e - o) (drop o t)
-unfolding stringAt
-string-is t o e h l z f =
-    let s : o + (e - o) ≡ e = omega arith in
-    until-first (drop o t) (e - o) (simp length-drop (omega arith))
-    (λ a. rw (getD-drop, s) (z (omega (arith, simp length-drop at a))))
-    (λ i a b q. f (o + i) (omega arith) (omega arith) (rw getD-drop at q))
+-- a string, byte by byte: it ends at a zero byte, and past the end of the table
+pub string-stops : (t : List ℕ) (i : ℕ) → getD t i 0 ≡ 0 → stringAt t i ≡ []
+unfolding stringAt untilZero
+string-stops [] zero e = refl
+string-stops [] (suc i) e = refl
+string-stops (zero ∷ t) zero e = refl
+string-stops (suc x ∷ t) zero e = absurd (omega arith)
+string-stops (x ∷ t) (suc i) e = string-stops t i e
 
--- a search from o on that has passed n bytes without a zero, and stops at one or at the end
-pub string-ends : (t : List ℕ) (o n i : ℕ) → i ≡ o + n → i ≤ length t → (i < length t → getD t i 0 ≡ 0) → NoZero t o i
+pub string-goes : (t : List ℕ) (i : ℕ) → (getD t i 0 ≡ 0 → ⊥) → stringAt t i ≡ getD t i 0 ∷ stringAt t (suc i)
+unfolding stringAt untilZero
+string-goes [] zero f = absurd (f refl)
+string-goes [] (suc i) f = absurd (f refl)
+string-goes (zero ∷ t) zero f = absurd (f refl)
+string-goes (suc x ∷ t) zero f = refl
+string-goes (x ∷ t) (suc i) f = string-goes t i f
+
+pub string-past : (t : List ℕ) (i : ℕ) → length t ≤ i → getD t i 0 ≡ 0
+string-past [] zero h = refl
+string-past [] (suc i) h = refl
+string-past (x ∷ t) zero h = absurd (omega arith)
+string-past (x ∷ t) (suc i) h = string-past t i (omega arith)
+
+-- a string of n bytes is the n bytes at its reference, which lie inside
+pub string-is : (t : List ℕ) (o n : ℕ) → n ≡ length (stringAt t o) → o ≤ length t
     → (o + n ≤ length t) × (stringAt t o ≡ take n (drop o t))
-string-ends t o n i e h z f = let q : i - o ≡ n = omega arith in (omega arith, rw (← q) (string-is t o i (omega arith) h z f))
+unfolding stringAt
+string-is t o n e h =
+    let (l, q) = until-front (drop o t) in
+    (omega (arith, simp length-drop at l), rw e q)
+
+-- its length tells whether the reference is good
+pub good-length : (t : List ℕ) (o : ℕ) → stringGood t o ≡ ltb (o + length (stringAt t o)) (length t)
+unfolding stringGood stringAt
+good-length t o = rw (zero-follows (drop o t), length-drop) (go (ltb o (length t)) refl)
+  where
+    n : ℕ
+    n = length (untilZero (drop o t))
+
+    rest : o < length t → (s : Bool) → ltb n (length t - o) ≡ s → s ≡ ltb (o + n) (length t)
+    rest h true q = let l = ltb-true n (length t - o) q in sym (lt-ltb (o + n) (length t) (omega arith))
+    rest h false q = let l = ltb-false n (length t - o) q in sym (le-ltb (o + n) (length t) (omega arith))
+
+    go : (s : Bool) → ltb o (length t) ≡ s → (s && ltb n (length t - o)) ≡ ltb (o + n) (length t)
+    go true e = rest (ltb-true o (length t) e) (ltb n (length t - o)) refl
+    go false e = let l = ltb-false o (length t) e in sym (le-ltb (o + n) (length t) (omega arith))
 
 -- a good reference lies inside
 pub string-inside : (t : List ℕ) (o : ℕ) → stringGood t o ≡ true → o < length t

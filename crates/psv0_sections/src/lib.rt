@@ -9,7 +9,7 @@ ghost use Rattle.wire.specs.Verdict.{_then_, check, from};
 ghost use Rattle.psv0_layout.specs.Field.{words, wordsIf, elementTotal, maskWords, sum, maskBytes};
 ghost use Rattle.psv0_layout.specs.Judged.{fieldsJudged, elementsJudged, entryJudged, judgedAt};
 ghost use Rattle.psv0_layout.specs.Layout.{Body, rows, sections, seen};
-ghost use Rattle.psv0_layout.specs.Position.{nextCounted, UpToLastZero, Judging};
+ghost use Rattle.psv0_layout.specs.Position.{nextCounted, Judging};
 ghost use Rattle.psv0_layout.specs.Given.{sectionsJudged};
 ghost use Rattle.psv0_sections.specs.Places.{headOnly, noPlaces, placesOf, locatedOf, BodyPlaced};
 ghost use Rattle.psv0_sections.specs.Steps.{stepTo, smallStep, tableAt, headOf, restOf, found, RuntimeRead, HeadRead, BodyAsked};
@@ -384,20 +384,6 @@ fn read_body(d: &[u8], edition: usize, head: Places, c: Cursor, count: usize, by
 }
 
 // ---- references
-// One more than the place of the last zero byte: a string reference is good exactly when it lies before it.
-fn string_end(t: &[u8]) -> usize
-    ensures { λ r. ⌜ UpToLastZero (now (t .entry)) r ⌝ }
-{
-    let mut i = t.len();
-    while 0 < i {
-        if t[i - 1] == 0 {
-            return i;
-        }
-        i -= 1;
-    }
-    0
-}
-
 // 22 and 23, element by element. Of the index table its count of numbers decides.
 fn judge_elements(end: usize, indices: usize, e: &[u8], stride: usize, count: usize) -> Verdict
     requires { ⌜ (count * stride ≤ length (now e)) × (1 ≤ count → 16 ≤ stride) ⌝ }
@@ -444,7 +430,7 @@ fn judge_references(d: &[u8], p: Places) -> Verdict
     let count = p.element_count;
     let stride = p.element_size;
     let elements_end = elements + count * stride;
-    let end = string_end(&d[strings..strings_end]);
+    let end = strings::end_of(&d[strings..strings_end]);
     match judge_elements(
         end,
         p.index_count,
@@ -468,7 +454,7 @@ pub fn judge_given(edition: usize, r: &[u8], t: &[u8], x: &[u8], e: &[u8]) -> Ve
     match judge_fields(r) {
         Verdict::Refused(n, q) => Verdict::Refused(n, q),
         Verdict::Accepted => {
-            let end = string_end(t);
+            let end = strings::end_of(t);
             match judge_elements(end, x.len() / 4, e, 16, e.len() / 16) {
                 Verdict::Refused(n, q) => Verdict::Refused(n, q),
                 Verdict::Accepted => judge_entry(r, 48, edition, end),

@@ -1,17 +1,32 @@
--- Spans that cross the boundary.
+-- Spans and signatures that cross the boundary.
 -- Assumes nothing.
 use Prim.Native.Nat.{ℕ, _≤_, _<_}
-use mathlib.Core.Path.{_≡_, ap}
+use mathlib.Core.Path.{_≡_, refl, _∙_, ap}
+use mathlib.Core.Bool.{true}
 use mathlib.Core.List.{List}
 use native.Mathlib.Omega.{arith}
+use lib.Dec.{ltb}
 use borrow.Author.Tests.{lt-ltb, le-ltb}
 use Rattle.wire.specs.declared.Verdict.{Verdict}
+use Rattle.wire.specs.declared.Verdict.the-variants.{Accepted, Refused}
+use Rattle.container.specs.Opened.{openingIf, containerOpeningOf}
+use Rattle.container.specs.declared.ContainerOpening.{ContainerOpening}
+use Rattle.container_layout.specs.Container.{containerJudged}
 use Rattle.psv0_layout.specs.Answers.{bytesOf, bytesBeside, sectionOf, SpanShows}
 use Rattle.psv0_layout.specs.declared.Span.{Span}
 use Rattle.psv0_layout.specs.Handed.{handed}
 use Rattle.psv0_layout.specs.Shown.{Value, queried}
-use Rattle.qollqamir.specs.Boundary.{cVerdict, cSpan, CShows, sectionNumbered, sectionVerdict, sectionShown}
+use Rattle.signature_layout.specs.Signature.{refusedElement, viewOf}
+use Rattle.signature_layout.specs.declared.SignatureAnswer.{SignatureAnswer}
+use Rattle.signature_report_layout.specs.Reported.{signatureReportOf, elementReportOf, differenceOf}
+use Rattle.signature_report_layout.specs.declared.DifferenceReport.{DifferenceReport}
+use Rattle.signature_report_layout.specs.declared.SignaturePart.{SignaturePart}
+use Rattle.signature_report_layout.specs.declared.SignatureReport.{SignatureReport}
+use Rattle.qollqamir.specs.Boundary.{cVerdict, cSpan, cSignatureReport, cDifference, partNumbered, noPart, reportNumbered, elementNumbered, differenceNumbered, CShows, sectionNumbered, sectionVerdict, sectionShown}
+use Rattle.qollqamir.specs.declared.CDifference.{CDifference}
+use Rattle.qollqamir.specs.declared.CSignatureReport.{CSignatureReport}
 use Rattle.qollqamir.specs.declared.CSpan.{CSpan}
+use Rattle.qollqamir.specs.declared.CVerdict.{CVerdict}
 
 pub crossed : {d : List ℕ} {v : Verdict} {l : List ℕ} {s : Span} {r : CSpan} → SpanShows d v l s → r ≡ cSpan s → CShows d v l r
 unfolding cSpan
@@ -28,3 +43,57 @@ module _ (d : List ℕ) (o : Verdict) (er : ℕ) (a : List ℕ) (x : Value) {n :
       → CShows d (sectionVerdict n o x) (sectionShown n o er a x) r
   unfolding sectionVerdict sectionShown
   some-section h g e = rw (lt-ltb n 6 (omega arith)) (crossed g e)
+
+-- ---- a signature part by its number n: no part where it is above 2
+verdict-if : (v : Verdict) (n f e : ℕ) → openingIf v n f e .verdict ≡ v
+verdict-if Accepted n f e = refl
+verdict-if (Refused m p) n f e = refl
+
+module _ (k : ℕ) (b : List ℕ) {o : ContainerOpening} (ho : o ≡ containerOpeningOf k b) where
+  opening-is : o .verdict ≡ containerJudged k b
+  unfolding containerOpeningOf
+  opening-is = ap (λ (q : ContainerOpening). q .verdict) ho ∙ verdict-if (containerJudged k b) _ _ _
+
+  pub opening-refused : {n p : ℕ} → o .verdict ≡ Refused n p → refusedElement n p ≡ noPart (containerJudged k b)
+  opening-refused e = rw (← opening-is, e)
+
+  pub opening-accepted : o .verdict ≡ Accepted → refusedElement 26 0 ≡ noPart (containerJudged k b)
+  opening-accepted e = rw (← opening-is, e)
+
+module _ (k : ℕ) (b : List ℕ) {n : ℕ} where
+  module _ (h : 2 < n) {a : SignatureAnswer} (ha : a ≡ noPart (containerJudged k b)) {v : CVerdict} (hv : v ≡ cVerdict (a .verdict)) where
+    pub no-report : record { verdict = v; count = 0; start = 0; len = 0 } ≡ reportNumbered n k b
+    unfolding reportNumbered
+    no-report = rw (hv, ha, le-ltb n 3 h)
+
+    pub no-difference : record { verdict = v; found = 0; number = 0 } ≡ differenceNumbered n k b
+    unfolding differenceNumbered
+    no-difference = rw (hv, ha, le-ltb n 3 h)
+
+  module _ (h : n ≤ 2) {s : SignaturePart} (hs : s ≡ partNumbered n) where
+    below : ltb n 3 ≡ true
+    below = lt-ltb n 3 (omega arith)
+
+    pub report-crossed : {a : SignatureReport} {r : CSignatureReport} → a ≡ signatureReportOf s k b → r ≡ cSignatureReport a → r ≡ reportNumbered n k b
+    unfolding reportNumbered
+    report-crossed ha hr = hr ∙ rw (ha, hs, below)
+
+    pub difference-crossed : {a : DifferenceReport} {r : CDifference} → a ≡ differenceOf s k b → r ≡ cDifference a → r ≡ differenceNumbered n k b
+    unfolding differenceNumbered
+    difference-crossed ha hr = hr ∙ rw (ha, hs, below)
+
+module _ (k : ℕ) (b : List ℕ) (i : ℕ) {n : ℕ} where
+  pub no-element : 2 < n → {a : SignatureAnswer} → a ≡ noPart (containerJudged k b) → a ≡ elementNumbered n k b i
+  unfolding elementNumbered
+  no-element h ha = ha ∙ rw (le-ltb n 3 h)
+
+  module _ (h : n ≤ 2) {s : SignaturePart} (hs : s ≡ partNumbered n) where
+    element-is : elementReportOf s k b i ≡ elementNumbered n k b i
+    unfolding elementNumbered
+    element-is = let l = lt-ltb n 3 (omega arith) in rw (hs, l)
+
+    pub element-crossed : {a : SignatureAnswer} → a ≡ elementReportOf s k b i → a ≡ elementNumbered n k b i
+    element-crossed ha = ha ∙ element-is
+
+    pub name-crossed : {a : Span} → a ≡ viewOf (elementReportOf s k b i) → a ≡ viewOf (elementNumbered n k b i)
+    name-crossed ha = ha ∙ ap (λ (q : SignatureAnswer). viewOf q) element-is

@@ -7,7 +7,7 @@ use lib.ListN.{length, take, drop}
 use Rattle.wire.specs.Choice.{choose}
 use Rattle.wire.specs.Verdict.{numberOf, placeOf}
 use Rattle.wire.specs.declared.Verdict.{Verdict}
-use Rattle.wire.specs.declared.Verdict.the-variants.{Refused}
+use Rattle.wire.specs.declared.Verdict.the-variants.{Accepted, Refused}
 use Rattle.assembler_layout.specs.declared.Assembly.{Assembly}
 use Rattle.container.specs.declared.ContainerOpening.{ContainerOpening}
 use Rattle.dxil_layout.specs.declared.Program.{Program}
@@ -15,6 +15,8 @@ use Rattle.dxil_layout.specs.declared.ProgramHeader.{ProgramHeader}
 use Rattle.dxil_report_layout.specs.declared.ProgramReport.{ProgramReport}
 use Rattle.dxil_report_layout.specs.declared.Stages.{Stages}
 use Rattle.dxil_report_layout.specs.declared.Stages.the-variants.{Equal, Different, Unset as NoStage}
+use Rattle.part_table_layout.specs.declared.Found.{Found}
+use Rattle.part_table_layout.specs.declared.Found.the-variants.{At as FoundAt, Nothing}
 use Rattle.part_table_layout.specs.declared.Part.{Part}
 use Rattle.part_table_layout.specs.declared.Table.{Table}
 use Rattle.psv0_layout.specs.Answers.{bytesOf, bytesBeside, sectionOf}
@@ -33,6 +35,22 @@ use Rattle.psv0_layout.specs.declared.View.the-variants.{StageUnion, ElementStr
 use Rattle.psv0_layout.specs.Handed.{handed}
 use Rattle.psv0_layout.specs.Shown.{Value, queried}
 use Rattle.psv0_writer_layout.specs.declared.Written.{Written}
+use Rattle.container_layout.specs.Container.{containerJudged}
+use Rattle.signature_layout.specs.Signature.{refusedElement}
+use Rattle.signature_layout.specs.declared.Name.{Name}
+use Rattle.signature_layout.specs.declared.Name.the-variants.{At as NameAt, Unset as NoName}
+use Rattle.signature_layout.specs.declared.Signature.{Signature}
+use Rattle.signature_layout.specs.declared.SignatureAnswer.{SignatureAnswer}
+use Rattle.signature_report_layout.specs.Reported.{signatureReportOf, elementReportOf, differenceOf}
+use Rattle.signature_report_layout.specs.declared.DifferenceReport.{DifferenceReport}
+use Rattle.signature_report_layout.specs.declared.SignaturePart.{SignaturePart}
+use Rattle.signature_report_layout.specs.declared.SignaturePart.the-variants.{Input, Output, Patch}
+use Rattle.signature_report_layout.specs.declared.SignatureReport.{SignatureReport}
+use Rattle.qollqamir.specs.declared.CSignature.{CSignature}
+use Rattle.qollqamir.specs.declared.CSignatureReport.{CSignatureReport}
+use Rattle.qollqamir.specs.declared.CSignatureElement.{CSignatureElement}
+use Rattle.qollqamir.specs.declared.CDifference.{CDifference}
+use Rattle.qollqamir.specs.declared.NameParts.{NameParts}
 use Rattle.qollqamir.specs.declared.CVerdict.{CVerdict}
 use Rattle.qollqamir.specs.declared.CField.{CField}
 use Rattle.qollqamir.specs.declared.CTable.{CTable}
@@ -179,6 +197,66 @@ cReport p =
       «psv0_stage» = cField (p .«psv0_stage»);
       stages = stagesNumber (p .stages);
     }
+
+-- ---- signatures
+unfoldable pub cSignature : Signature → CSignature
+cSignature a = record { verdict = cVerdict (a .verdict); count = a .count }
+
+unfoldable pub cSignatureReport : SignatureReport → CSignatureReport
+cSignatureReport a = record { verdict = cVerdict (a .verdict); count = a .count; start = a .start; len = a .len }
+
+-- 1, where the name starts and its length; zeros where there is none
+abbrev pub nameParts : Name → NameParts
+nameParts (NameAt s n) = record { named = 1; start = s; len = n }
+nameParts NoName = record { named = 0; start = 0; len = 0 }
+
+unfoldable pub cSignatureElement : SignatureAnswer → CSignatureElement
+cSignatureElement a =
+    record {
+      verdict = cVerdict (a .verdict);
+      stream = a .element .stream;
+      «name_offset» = a .element .«name_offset»;
+      index = a .element .index;
+      «system_value» = a .element .«system_value»;
+      «component_type» = a .element .«component_type»;
+      «register_number» = a .element .«register_number»;
+      mask = a .element .mask;
+      «exclusive_mask» = a .element .«exclusive_mask»;
+      precision = a .element .precision;
+      named = nameParts (a .name) .named;
+      «name_start» = nameParts (a .name) .start;
+      «name_len» = nameParts (a .name) .len;
+    }
+
+-- 1 and the number of what was found, zeros where there is nothing
+abbrev pub differenceIf : CVerdict → Found → CDifference
+differenceIf v (FoundAt i) = record { verdict = v; found = 1; number = i }
+differenceIf v Nothing = record { verdict = v; found = 0; number = 0 }
+
+unfoldable pub cDifference : DifferenceReport → CDifference
+cDifference a = differenceIf (cVerdict (a .verdict)) (a .first)
+
+-- the part that a number names: 0 ISG1, 1 OSG1, 2 PSG1
+abbrev pub partNumbered : ℕ → SignaturePart
+partNumbered n = choose (eqb n 0) Input (choose (eqb n 1) Output Patch)
+
+-- a number above 2 names none, and is answered as an absent part: what opening gives, o, then 26
+abbrev pub noPart : Verdict → SignatureAnswer
+noPart Accepted = refusedElement 26 0
+noPart (Refused n p) = refusedElement n p
+
+-- the reports on the part that n names, at edition k on b
+unfoldable pub reportNumbered : ℕ → ℕ → List ℕ → CSignatureReport
+reportNumbered n k b =
+    choose (ltb n 3) (cSignatureReport (signatureReportOf (partNumbered n) k b))
+    (record { verdict = cVerdict (noPart (containerJudged k b) .verdict); count = 0; start = 0; len = 0 })
+
+unfoldable pub elementNumbered : ℕ → ℕ → List ℕ → ℕ → SignatureAnswer
+elementNumbered n k b i = choose (ltb n 3) (elementReportOf (partNumbered n) k b i) (noPart (containerJudged k b))
+
+unfoldable pub differenceNumbered : ℕ → ℕ → List ℕ → CDifference
+differenceNumbered n k b =
+    choose (ltb n 3) (cDifference (differenceOf (partNumbered n) k b)) (differenceIf (cVerdict (noPart (containerJudged k b) .verdict)) Nothing)
 
 -- a span shows the bytes l of d under the verdict v: it lies inside, and a refusal has start and length 0. Where l is empty the start is
 -- left free

@@ -7,6 +7,7 @@ use dxil_layout::Program;
 use dxil_layout::ProgramHeader;
 use dxil_report_layout::ProgramReport;
 use dxil_report_layout::Stages;
+use part_table_layout::Found;
 use part_table_layout::Part;
 use part_table_layout::Table;
 use psv0_layout::ElementAnswer;
@@ -19,6 +20,12 @@ use psv0_layout::Section;
 use psv0_layout::Span;
 use psv0_layout::View;
 use psv0_writer_layout::Written;
+use signature_layout::Name;
+use signature_layout::Signature;
+use signature_layout::SignatureAnswer;
+use signature_report_layout::DifferenceReport;
+use signature_report_layout::SignaturePart;
+use signature_report_layout::SignatureReport;
 use wire::Verdict;
 ghost use mathlib.Core.Path.{_≡_};
 ghost use lib.ListN.{length};
@@ -36,8 +43,9 @@ ghost use Rattle.psv0_layout.specs.Judged.{opened};
 ghost use Rattle.psv0_layout.specs.Layout.{editionRead, defaultEdition};
 ghost use Rattle.psv0_layout.specs.Shown.{answered, queried};
 ghost use Rattle.psv0_writer_layout.specs.Answer as writing;
+ghost use Rattle.signature_layout.specs.Signature.{signatureOf, elementOf, aloneOf, viewOf as nameView};
 ghost use Rattle.wire.specs.Number.{u32At};
-ghost use Rattle.qollqamir.specs.Boundary.{cVerdict, cField, cTable, cPart, cOpening, cPsvOpening, cInfo, cResource, cElement, cLengths, cSpan, cWritten, cAssembly, stagesNumber, cHeader, cProgram, cReport, viewOf, sectionNumbered, sectionVerdict, sectionShown, CShows};
+ghost use Rattle.qollqamir.specs.Boundary.{cVerdict, cField, cTable, cPart, cOpening, cPsvOpening, cInfo, cResource, cElement, cLengths, cSpan, cWritten, cAssembly, stagesNumber, cHeader, cProgram, cReport, cSignature, cSignatureReport, nameParts, cSignatureElement, cDifference, partNumbered, noPart, reportNumbered, elementNumbered, differenceNumbered, viewOf, sectionNumbered, sectionVerdict, sectionShown, CShows};
 
 // A verdict: the refusal's number, 0 where the call accepts, and its place.
 #[repr(C)]
@@ -193,6 +201,48 @@ pub struct CReport {
     pub len: usize,
     pub psv0_stage: CField,
     pub stages: usize,
+}
+
+// A signature: its element count.
+#[repr(C)]
+pub struct CSignature {
+    pub verdict: CVerdict,
+    pub count: usize,
+}
+
+// The report on a signature part: its element count, and its data as a stretch of the container.
+#[repr(C)]
+pub struct CSignatureReport {
+    pub verdict: CVerdict,
+    pub count: usize,
+    pub start: usize,
+    pub len: usize,
+}
+
+// A signature element, and its name: 1 where it has one, 0 where it has none, where it starts and its length.
+#[repr(C)]
+pub struct CSignatureElement {
+    pub verdict: CVerdict,
+    pub stream: u32,
+    pub name_offset: u32,
+    pub index: u32,
+    pub system_value: u32,
+    pub component_type: u32,
+    pub register_number: u32,
+    pub mask: u32,
+    pub exclusive_mask: u32,
+    pub precision: u32,
+    pub named: u32,
+    pub name_start: usize,
+    pub name_len: usize,
+}
+
+// The first element that differs: 1 and its number, 0 and 0 where there is none.
+#[repr(C)]
+pub struct CDifference {
+    pub verdict: CVerdict,
+    pub found: usize,
+    pub number: usize,
 }
 
 fn c_verdict(v: Verdict) -> CVerdict
@@ -482,6 +532,121 @@ fn c_report(p: ProgramReport) -> CReport
     }
 }
 
+fn c_signature(a: Signature) -> CSignature
+    ensures { λ r. ⌜ r ≡ cSignature a ⌝ }
+{
+    let v = a.verdict;
+    CSignature {
+        verdict: c_verdict(v),
+        count: a.count,
+    }
+}
+
+fn c_signature_report(a: SignatureReport) -> CSignatureReport
+    ensures { λ r. ⌜ r ≡ cSignatureReport a ⌝ }
+{
+    let v = a.verdict;
+    CSignatureReport {
+        verdict: c_verdict(v),
+        count: a.count,
+        start: a.start,
+        len: a.len,
+    }
+}
+
+// A name as three numbers: whether there is one, where it starts and its length.
+struct NameParts {
+    named: u32,
+    start: usize,
+    len: usize,
+}
+
+fn name_parts(name: Name) -> NameParts
+    ensures { λ r. ⌜ r ≡ nameParts name ⌝ }
+{
+    match name {
+        Name::At(start, len) => NameParts {
+            named: 1,
+            start,
+            len,
+        },
+        Name::Unset => NameParts {
+            named: 0,
+            start: 0,
+            len: 0,
+        },
+    }
+}
+
+fn c_signature_element(a: SignatureAnswer) -> CSignatureElement
+    ensures { λ r. ⌜ r ≡ cSignatureElement a ⌝ }
+{
+    let v = a.verdict;
+    let e = a.element;
+    let name = a.name;
+    let n = name_parts(name);
+    CSignatureElement {
+        verdict: c_verdict(v),
+        stream: e.stream,
+        name_offset: e.name_offset,
+        index: e.index,
+        system_value: e.system_value,
+        component_type: e.component_type,
+        register_number: e.register_number,
+        mask: e.mask,
+        exclusive_mask: e.exclusive_mask,
+        precision: e.precision,
+        named: n.named,
+        name_start: n.start,
+        name_len: n.len,
+    }
+}
+
+fn c_difference(a: DifferenceReport) -> CDifference
+    ensures { λ r. ⌜ r ≡ cDifference a ⌝ }
+{
+    let v = a.verdict;
+    let first = a.first;
+    let c = c_verdict(v);
+    match first {
+        Found::At(i) => CDifference {
+            verdict: c,
+            found: 1,
+            number: i,
+        },
+        Found::Nothing => CDifference {
+            verdict: c,
+            found: 0,
+            number: 0,
+        },
+    }
+}
+
+// A signature part by its number: 0 ISG1, 1 OSG1, any other PSG1.
+fn part_numbered(part: u32) -> SignaturePart
+    ensures { λ r. ⌜ r ≡ partNumbered part ⌝ }
+{
+    if part == 0 {
+        return SignaturePart::Input;
+    }
+    if part == 1 {
+        return SignaturePart::Output;
+    }
+    SignaturePart::Patch
+}
+
+// What a number above 2, which names no signature part, is answered with: what opening gives, then 26.
+fn no_part(b: &[u8], edition: usize) -> SignatureAnswer
+    ensures { λ r. ⌜ r ≡ noPart (containerJudged edition (now (b .entry))) ⌝ }
+{
+    let o = container::open(b, edition);
+    let v = o.verdict;
+    match v {
+        Verdict::Refused(n, place) => signature::refused(n, place),
+        Verdict::Accepted => signature::refused(26, 0),
+    }
+}
+
 // A view by its kind and number: 0 the stage union, 1 an element's string, 2 an element's index array, 3 the entry name, 4 a mask. Any
 // other kind is a mask that isn't there.
 fn view_of(kind: u32, number: usize) -> View
@@ -701,6 +866,101 @@ pub extern "C" fn qollqamir_program(b: &[u8], edition: usize) -> CReport
     ensures { λ r. ⌜ r ≡ cReport (programReportOf edition (now (b .entry))) ⌝ }
 {
     c_report(dxil_report::report(b, edition))
+}
+
+// The data of a part ISG1, OSG1 or PSG1 alone: 43 to 45.
+#[no_mangle]
+pub extern "C" fn qollqamir_sg1_read(d: &[u8]) -> CSignature
+    ensures { λ r. ⌜ r ≡ cSignature (signatureOf (now (d .entry))) ⌝ }
+{
+    c_signature(signature::read(d))
+}
+
+// Element i of such data: 43 to 45, then 26.
+#[no_mangle]
+pub extern "C" fn qollqamir_sg1_element(d: &[u8], i: usize) -> CSignatureElement
+    ensures { λ r. ⌜ r ≡ cSignatureElement (elementOf (now (d .entry)) i) ⌝ }
+{
+    c_signature_element(signature::element(d, i))
+}
+
+// Element i of such data by itself: 43, 26, 44 of its own bytes, 45 of its own name.
+#[no_mangle]
+pub extern "C" fn qollqamir_sg1_element_alone(d: &[u8], i: usize) -> CSignatureElement
+    ensures { λ r. ⌜ r ≡ cSignatureElement (aloneOf (now (d .entry)) i) ⌝ }
+{
+    c_signature_element(signature::element_alone(d, i))
+}
+
+// The name of element i of such data: 43 to 45, then 26.
+#[no_mangle]
+pub extern "C" fn qollqamir_sg1_name(d: &[u8], i: usize) -> CSpan
+    ensures { λ r. ⌜ r ≡ cSpan (nameView (elementOf (now (d .entry)) i)) ⌝ }
+{
+    c_span(signature::name(d, i))
+}
+
+// The report on a container's signature part at an edition, 0 ISG1, 1 OSG1, 2 PSG1: what opening gives, 26, then 43 to 45.
+#[no_mangle]
+pub extern "C" fn qollqamir_signature(b: &[u8], edition: usize, part: u32) -> CSignatureReport
+    ensures { λ r. ⌜ r ≡ reportNumbered part edition (now (b .entry)) ⌝ }
+{
+    if 2 < part {
+        let a = no_part(b, edition);
+        let v = a.verdict;
+        return CSignatureReport {
+            verdict: c_verdict(v),
+            count: 0,
+            start: 0,
+            len: 0,
+        };
+    }
+    c_signature_report(signature_report::report(b, edition, part_numbered(part)))
+}
+
+// Element i of the part, its name as a stretch of the container: those of the report, then 26.
+#[no_mangle]
+pub extern "C" fn qollqamir_signature_element(
+    b: &[u8],
+    edition: usize,
+    part: u32,
+    i: usize,
+) -> CSignatureElement
+    ensures { λ r. ⌜ r ≡ cSignatureElement (elementNumbered part edition (now (b .entry)) i) ⌝ }
+{
+    if 2 < part {
+        return c_signature_element(no_part(b, edition));
+    }
+    c_signature_element(signature_report::element(b, edition, part_numbered(part), i))
+}
+
+// The name of element i of the part as a stretch of the container: those of the report, then 26.
+#[no_mangle]
+pub extern "C" fn qollqamir_signature_name(b: &[u8], edition: usize, part: u32, i: usize) -> CSpan
+    ensures { λ r. ⌜ r ≡ cSpan (nameView (elementNumbered part edition (now (b .entry)) i)) ⌝ }
+{
+    if 2 < part {
+        return c_span(signature::view_of(no_part(b, edition)));
+    }
+    c_span(signature_report::name(b, edition, part_numbered(part), i))
+}
+
+// The first named element of the part whose name differs from that of PSV0's element of the same list and number, or is missing there: after the
+// refusals of the report.
+#[no_mangle]
+pub extern "C" fn qollqamir_signature_difference(b: &[u8], edition: usize, part: u32) -> CDifference
+    ensures { λ r. ⌜ r ≡ differenceNumbered part edition (now (b .entry)) ⌝ }
+{
+    if 2 < part {
+        let a = no_part(b, edition);
+        let v = a.verdict;
+        return CDifference {
+            verdict: c_verdict(v),
+            found: 0,
+            number: 0,
+        };
+    }
+    c_difference(signature_report::first_difference(b, edition, part_numbered(part)))
 }
 
 // Writes PSV0 data.

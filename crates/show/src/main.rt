@@ -1,10 +1,13 @@
 // show EDITION FILE: prints all that an opening of a container of at most 65,536 bytes and its queries show, one item a line.
 use dxil_report_layout::Stages;
+use part_table_layout::Found;
 use printing::number;
 use printing::text;
 use psv0_layout::Field;
 use psv0_layout::RuntimeInfo;
 use psv0_layout::View;
+use signature_layout::Name;
+use signature_report_layout::SignaturePart;
 use wire::Verdict;
 
 // ---- bytes and values
@@ -358,6 +361,90 @@ fn program(b: &[u8], edition: usize) {
     }
 }
 
+// ---- the reports on the signature parts
+
+// How each line of a part starts.
+fn line_of(part: SignaturePart) {
+    match part {
+        SignaturePart::Input => text(b"signature ISG1 "),
+        SignaturePart::Output => text(b"signature OSG1 "),
+        SignaturePart::Patch => text(b"signature PSG1 "),
+    }
+}
+
+// A name in the part's data.
+fn name_in(d: &[u8], name: Name) {
+    match name {
+        Name::Unset => text(b"unset"),
+        Name::At(_, _) => {
+            text(b"\"");
+            string_bytes(signature::name_bytes(d, name));
+            text(b"\"");
+        }
+    }
+}
+
+// Element i of data that the report has judged: by itself, so that it costs no other element.
+fn signature_element(d: &[u8], part: SignaturePart, i: usize) {
+    let a = signature::element_alone(d, i);
+    let e = a.element;
+    let name = a.name;
+    line_of(part);
+    number(i);
+    text(b" name ");
+    name_in(d, name);
+    count_of(b" name_offset ", e.name_offset);
+    count_of(b" index ", e.index);
+    count_of(b" stream ", e.stream);
+    count_of(b" system_value ", e.system_value);
+    count_of(b" component ", e.component_type);
+    count_of(b" register ", e.register_number);
+    count_of(b" mask ", e.mask);
+    count_of(b" exclusive_mask ", e.exclusive_mask);
+    count_of(b" precision ", e.precision);
+    text(b"\n");
+}
+
+fn signature_elements(d: &[u8], part: SignaturePart, n: usize) {
+    let mut i = 0;
+    while i < n {
+        signature_element(d, part, i);
+        i += 1;
+    }
+}
+
+fn difference(b: &[u8], edition: usize, part: SignaturePart) {
+    let r = signature_report::first_difference(b, edition, part);
+    let first = r.first;
+    line_of(part);
+    text(b"first_difference ");
+    match first {
+        Found::At(i) => number(i),
+        Found::Nothing => text(b"none"),
+    }
+    text(b"\n");
+}
+
+fn signature_part(b: &[u8], edition: usize, part: SignaturePart) {
+    let r = signature_report::report(b, edition, part);
+    let n = r.count;
+    let start = r.start;
+    let len = r.len;
+    let v = r.verdict;
+    line_of(part);
+    match v {
+        Verdict::Refused(m, place) => printing::refusal(m, place),
+        Verdict::Accepted => {
+            text(b"elements ");
+            number(n);
+            text(b"\n");
+            let end = start + len;
+            signature_elements(&b[start..end], part, n);
+            difference(b, edition, part);
+        }
+    }
+}
+
 // ---- all of it
 
 fn dump(b: &[u8], edition: usize) {
@@ -375,6 +462,9 @@ fn dump(b: &[u8], edition: usize) {
     elements(b, edition, e);
     masks(b, edition);
     program(b, edition);
+    signature_part(b, edition, SignaturePart::Input);
+    signature_part(b, edition, SignaturePart::Output);
+    signature_part(b, edition, SignaturePart::Patch);
 }
 
 fn show(b: &[u8], edition: usize) {

@@ -1,17 +1,33 @@
--- Laws of a slice that is written stretch after stretch.
+-- Laws of lists that are compared, and of a slice that is written stretch after stretch.
 -- Assumes nothing.
 use Prim.Native.Nat.{ℕ, _+_, _-_, _≤_, _<_}
 use mathlib.Core.Path.{_≡_, refl, sym, _∙_, ap}
-use mathlib.Core.List.{List, [], _++_, append-assoc, append-nil}
+use mathlib.Core.Bool.{true, true≢false}
+use mathlib.Core.List.{List, [], _∷_, _++_, append-assoc, append-nil}
 use native.Mathlib.Numerals.{add-one}
 use native.Mathlib.Nat.{zero-add}
 use native.Mathlib.Omega.{arith}
 use lib.ListN.{length, getD, take, drop, set, length-append, length-drop, drop-of-length-le}
 use lib.Seq.{take-at, drop-at, drop-drop, paste-suc, take-length, length-take-le}
-use borrow.Author.Tests.{eq-eqb, ne-eqb}
+use lib.Dec.{eqb}
+use borrow.Author.Tests.{eq-eqb, ne-eqb, eqb-true}
 use Rattle.wire.specs.Number.{placed}
-use Rattle.wire.specs.Stretch.{copied}
+use Rattle.wire.specs.Stretch.{copied, sameBytes}
+use Rattle.wire.proofs.Choices.{both}
 use Rattle.wire.proofs.Numbers.{placed-in}
+
+-- lists with the same bytes are equal, and only they
+pub same-told : (l m : List ℕ) → sameBytes l m ≡ true → l ≡ m
+unfolding sameBytes
+same-told [] [] e = refl
+same-told [] (y ∷ m) e = absurd (true≢false (sym e))
+same-told (x ∷ l) [] e = absurd (true≢false (sym e))
+same-told (x ∷ l) (y ∷ m) e = let (a, r) = both (eqb x y) _ e in rw (eqb-true x y a, same-told l m r)
+
+pub same-self : (l : List ℕ) → sameBytes l l ≡ true
+unfolding sameBytes
+same-self [] = refl
+same-self (x ∷ l) = rw (eq-eqb x x refl) (same-self l)
 
 module _ (o s : List ℕ) where
   pub copied-is : length o ≡ length s → copied o s ≡ s

@@ -14,13 +14,13 @@ returns-2 c =
 returns-3 : tie.Need-returns-3
 returns-3 c =
     let p = c .before .before .before .before .before .before .before .before .before .before .before .before .before .args in
-    given-elements _ (p .r .now) (p .t .now) (p .x .now) (p .e .now) (c .before .before .before .before .before .before .before .before .if1 .left) _ (c .before .before .before .before .before .before .before .judge-fields .ensures) (c .before .before .before .before .before .enum-told .given .1) _ (c .before .before .before .before .string-end .ensures) _ (c .before .before .before .judge-elements .ensures)
+    given-elements _ (p .r .now) (p .t .now) (p .x .now) (p .e .now) (c .before .before .before .before .before .before .before .before .if1 .left) _ (c .before .before .before .before .before .before .before .judge-fields .ensures) (c .before .before .before .before .before .enum-told .given .1) _ (c .before .before .before .before .end-of .ensures) _ (c .before .before .before .judge-elements .ensures)
     (c .before .n2 .given .1)
 
 returns-4 : tie.Need-returns-4
 returns-4 c =
     let p = c .before .before .before .before .before .before .before .before .before .before .before .before .before .args in
-    given-entry _ (p .r .now) (p .t .now) (p .x .now) (p .e .now) (c .before .before .before .before .before .before .before .before .if1 .left) _ (c .before .before .before .before .before .before .before .judge-fields .ensures) (c .before .before .before .before .before .enum-told .given .1) _ (c .before .before .before .before .string-end .ensures) _ (c .before .before .before .judge-elements .ensures)
+    given-entry _ (p .r .now) (p .t .now) (p .x .now) (p .e .now) (c .before .before .before .before .before .before .before .before .if1 .left) _ (c .before .before .before .before .before .before .before .judge-fields .ensures) (c .before .before .before .before .before .enum-told .given .1) _ (c .before .before .before .before .end-of .ensures) _ (c .before .before .before .judge-elements .ensures)
     (c .before .enum-told2 .given .1) (c .judge-entry .ensures)
 
 pub judge-given-spec : {M : Type 1} → statement M

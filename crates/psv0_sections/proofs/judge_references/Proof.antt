@@ -11,7 +11,7 @@ returns c =
     let u = j .before .before in
     let s = u .before .before .before .before in
     stop-then _ _ _ _
-    (sym (j .judge-elements .ensures _ (judging _ (s .args .p) (s .pre .0) _ (u .string-end .ensures))) ∙ c .before .n .given .1)
+    (sym (j .judge-elements .ensures _ (judging _ (s .args .p) (s .pre .0) _ (u .end-of .ensures))) ∙ c .before .n .given .1)
 
 returns-2 : tie.Need-returns-2
 returns-2 c =
@@ -19,8 +19,8 @@ returns-2 c =
     let u = j .before .before in
     let s = u .before .before .before .before in
     pass-then _ _ _
-    (sym (j .judge-elements .ensures _ (judging _ (s .args .p) (s .pre .0) _ (u .string-end .ensures))) ∙ c .before .enum-told .given .1)
-    (c .judge-entry .ensures ∙ entry-judged _ (s .args .p) (s .pre .0) _ (u .string-end .ensures) _ (s .pre .1))
+    (sym (j .judge-elements .ensures _ (judging _ (s .args .p) (s .pre .0) _ (u .end-of .ensures))) ∙ c .before .enum-told .given .1)
+    (c .judge-entry .ensures ∙ entry-judged _ (s .args .p) (s .pre .0) _ (u .end-of .ensures) _ (s .pre .1))
 
 pub judge-references-spec : {M : Type 1} → statement M
 judge-references-spec =

@@ -6,8 +6,8 @@ use lib.ListN.{length}
 use Rattle.psv0_layout.specs.Position.{NoZero}
 use Rattle.psv0_layout.proofs.References.{noZero-begin, lastZero-none}
 use Rattle.psv0_layout.proofs.Judgements.{zero-found, zero-sought}
-use Rattle.psv0_sections.proofs.string_end.Statement.{statement}
-use Rattle.psv0_sections.proofs.string_end.Tie as tie
+use Rattle.strings.proofs.end_of.Statement.{statement}
+use Rattle.strings.proofs.end_of.Tie as tie
 
 abbrev Inv-loop : tie.InvT-loop
 Inv-loop t i₀ i = (i ≤ length t) × NoZero t i (length t)
@@ -35,8 +35,8 @@ returns-2 c =
     let e : l .i ≡ 0 = omega (arith, c .loop-test .left) in
     lastZero-none _ (rw e at (l .inv .1))
 
-pub string-end-spec : {M : Type 1} → statement M
-string-end-spec =
+pub end-of-spec : {M : Type 1} → statement M
+end-of-spec =
     tie.close
     (tie.spec
     Inv-loop

@@ -1,0 +1,4 @@
+pub mod Agreed
+pub mod Boxes
+pub mod Names
+pub mod Steps

@@ -1,0 +1,241 @@
+-- The steps of the reports' code.
+-- Assumes nothing.
+use Prim.Native.Nat.{ℕ, _+_, _-_, _*_, _/_, _≤_, _<_}
+use mathlib.Core.Path.{_≡_, refl, sym, _∙_, ap}
+use mathlib.Core.Bool.{Bool, true, false, not}
+use mathlib.Core.List.{List, []}
+use native.Mathlib.Omega.{arith}
+use native.Mathlib.Nat.{mul-le-mul-right, mul-div-le, le-trans}
+use lib.ListN.{length, take, drop, length-take, length-drop}
+use borrow.Author.Tests.{eq-eqb, ne-eqb, lt-ltb, le-ltb}
+use Rattle.wire.specs.Number.{u32At}
+use Rattle.wire.specs.Search.{first}
+use Rattle.wire.specs.Stretch.{sameBytes}
+use Rattle.wire.specs.Verdict.{_then_}
+use Rattle.wire.specs.declared.Verdict.{Verdict}
+use Rattle.wire.specs.declared.Verdict.the-variants.{Accepted, Refused}
+use Rattle.wire.proofs.Searches.{Searched, found, none}
+use Rattle.part_table_layout.specs.declared.Found.{Found}
+use Rattle.part_table_layout.specs.declared.Found.the-variants.{At as FoundAt, Nothing}
+use Rattle.part_table_layout.specs.declared.Part.{Part}
+use Rattle.psv0_layout.specs.Answers.{fieldOf, infoOf, infoAnswerOf, bytesBeside}
+use Rattle.psv0_layout.specs.Handed.{stringTable, elementRecords, handed}
+use Rattle.psv0_layout.specs.Layout.{editionRead}
+use Rattle.psv0_layout.specs.Reference.{stringAt}
+use Rattle.psv0_layout.specs.Shown.{Value, unset, number, view, inputElements, outputElements, patchElements}
+use Rattle.psv0_layout.specs.declared.InfoAnswer.{InfoAnswer}
+use Rattle.container_layout.specs.Container.{psvOf, containerJudged, containerAnswered, containerPart}
+use Rattle.container_layout.proofs.Parts.{part-short, part-fits}
+use Rattle.container_layout.proofs.Reports.{no-report, data-reported, starts-at, data-there, reported-opens, reported-judged, reported-size, reported-inside, reported-bytes}
+use Rattle.signature_layout.specs.Signature.{countOf, firstOf, nameOffset, signatureJudged, elementJudged, signatureOf, refusedElement, elementOf}
+use Rattle.signature_layout.specs.declared.Name.the-variants.{At, Unset}
+use Rattle.signature_layout.specs.declared.Signature.{Signature}
+use Rattle.signature_layout.specs.declared.SignatureAnswer.{SignatureAnswer}
+use Rattle.signature_layout.proofs.Signatures.{offset-read, name-inside}
+use Rattle.signature_report_layout.specs.Listed.{countIn, listed}
+use Rattle.signature_report_layout.specs.Reported.{partName, signatureData, signatureReported, reportIf, signatureReportOf, moved, movedName, elementReported, elementReportOf, countShown, listSize, listBefore, psvName, differs, differsAt, firstDifference, differenceOf}
+use Rattle.signature_report_layout.specs.declared.SignaturePart.{SignaturePart}
+use Rattle.signature_report_layout.specs.declared.SignaturePart.the-variants.{Input}
+use Rattle.signature_report_layout.specs.declared.SignatureReport.{SignatureReport}
+use Rattle.signature_report_layout.proofs.Names.{inputs, outputs, patches, list-within, totals-short, names-listed}
+
+-- ---- r is the part that was asked for
+module _ (s : SignaturePart) (k : ℕ) (b : List ℕ) {r : Part} (hr : r ≡ containerPart k b (partName s)) where
+  -- no part: what opening gives, or 26
+  module _ {n p : ℕ} (e : r .verdict ≡ Refused n p) where
+    stops : signatureReported s k b ≡ Refused n p
+    unfolding signatureReported
+    stops = sym (no-report signatureJudged k b (partName s) hr e)
+
+    pub part-refused : reportIf (Refused n p) Input [] ≡ signatureReportOf s k b
+    unfolding signatureReportOf
+    part-refused = rw stops
+
+    pub part-no-element : (i : ℕ) → refusedElement n p ≡ elementReportOf s k b i
+    unfolding elementReportOf elementReported _then_
+    part-no-element i = rw stops
+
+  module _ (h : r .verdict ≡ Accepted) where
+    data-is : take (r .offset + 8 + r .size - (r .offset + 8)) (drop (r .offset + 8) b) ≡ signatureData s b
+    data-is = data-there k b (partName s) hr h
+
+    judged-is : signatureJudged (signatureData s b) ≡ signatureReported s k b
+    unfolding signatureReported
+    judged-is = data-reported signatureJudged k b (partName s) hr h
+
+    size-is : signatureReported s k b ≡ Accepted → r .size ≡ length (signatureData s b)
+    unfolding signatureReported
+    size-is v = ap (λ (q : Part). q .size) hr ∙ sym (reported-size signatureJudged (partName s) k b v)
+
+    -- g is what was read of the data
+    module _ {g : Signature} (hg : g ≡ signatureOf (take (r .offset + 8 + r .size - (r .offset + 8)) (drop (r .offset + 8) b))) where
+      read-is : g ≡ signatureOf (signatureData s b)
+      read-is = hg ∙ ap signatureOf data-is
+
+      verdict-is : g .verdict ≡ signatureReported s k b
+      unfolding signatureOf
+      verdict-is = ap (λ (q : Signature). q .verdict) read-is ∙ judged-is
+
+      pub data-refused : {n p : ℕ} → g .verdict ≡ Refused n p → reportIf (Refused n p) Input [] ≡ signatureReportOf s k b
+      unfolding signatureReportOf
+      data-refused e = rw (← verdict-is, e)
+
+      pub data-accepted : g .verdict ≡ Accepted
+          → record { verdict = Accepted; count = g .count; start = r .offset + 8; len = r .size } ≡ signatureReportOf s k b
+      unfolding signatureReportOf signatureOf
+      data-accepted e =
+          let v = sym verdict-is ∙ e in
+          rw (v, starts-at k b (partName s) hr h, size-is v, read-is, judged-is, v)
+
+    -- element i of the data
+    module _ (i : ℕ) {a : SignatureAnswer} (ha : a ≡ elementOf (take (r .offset + 8 + r .size - (r .offset + 8)) (drop (r .offset + 8) b)) i) where
+      element-is : a ≡ elementOf (signatureData s b) i
+      element-is = ha ∙ ap (λ (d : List ℕ). elementOf d i) data-is
+
+      pub element-room : (o n : ℕ) → a .name ≡ At o n → r .offset + 8 + o ≤ 16777216
+      element-room o n e =
+          let l = name-inside (signatureData s b) i (rw element-is at e) in
+          let f = part-fits k b (partName s) hr h in
+          let t = part-short k b (partName s) hr h in
+          omega (arith, simp (length-take, length-drop) at (ap length data-is))
+
+      pub element-moved : {q : SignatureAnswer} → q ≡ moved (r .offset + 8) a → q ≡ elementReportOf s k b i
+      unfolding elementReportOf elementReported elementOf elementJudged
+      element-moved e = e ∙ rw (starts-at k b (partName s) hr h, element-is, judged-is)
+
+-- ---- the second report: r is the first
+verdict-if : (v : Verdict) (s : SignaturePart) (b : List ℕ) → reportIf v s b .verdict ≡ v
+verdict-if Accepted s b = refl
+verdict-if (Refused n p) s b = refl
+
+field-count : (x : Value) → countIn (fieldOf x) ≡ countShown x
+field-count unset = refl
+field-count (number n) = refl
+field-count (view l) = refl
+
+module _ (s : SignaturePart) (k : ℕ) (b : List ℕ) {r : SignatureReport} (hr : r ≡ signatureReportOf s k b) where
+  report-is : r .verdict ≡ signatureReported s k b
+  unfolding signatureReportOf
+  report-is = ap (λ (q : SignatureReport). q .verdict) hr ∙ verdict-if (signatureReported s k b) s b
+
+  pub no-difference : {n p : ℕ} → r .verdict ≡ Refused n p → record { verdict = Refused n p; first = Nothing } ≡ differenceOf s k b
+  unfolding differenceOf
+  no-difference e = rw (← report-is, e)
+
+  module _ (e : r .verdict ≡ Accepted) where
+    accepted : signatureReported s k b ≡ Accepted
+    accepted = sym report-is ∙ e
+
+    shown : r ≡ reportIf Accepted s b
+    unfolding signatureReportOf
+    shown = hr ∙ rw accepted
+
+    pub stretch-inside : r .start + r .len ≤ length b
+    unfolding signatureReported
+    stretch-inside = rw shown (reported-inside signatureJudged (partName s) k b accepted)
+
+    stretch-is : take (r .start + r .len - r .start) (drop (r .start) b) ≡ signatureData s b
+    unfolding signatureReported
+    stretch-is =
+        let z : r .start + r .len - r .start ≡ r .len = omega arith in
+        rw (z, shown) (reported-bytes signatureJudged (partName s) k b accepted)
+
+    pub stretch-judged : signatureJudged (take (r .start + r .len - r .start) (drop (r .start) b)) ≡ Accepted
+    unfolding signatureReported
+    stretch-judged = rw stretch-is (reported-judged signatureJudged (partName s) k b accepted)
+
+    opens : containerJudged k b ≡ Accepted
+    unfolding signatureReported
+    opens = reported-opens signatureJudged (partName s) k b accepted
+
+    -- i, m and p are the counts that were taken from the runtime info
+    module _ {a : InfoAnswer} (ha : a ≡ infoAnswerOf (containerJudged k b) (containerAnswered k b)) {i m p : ℕ}
+        (ei : i ≡ countIn (a .info .«input_elements»)) (em : m ≡ countIn (a .info .«output_elements»)) (ep : p ≡ countIn (a .info .«patch_elements»)) where
+      counts-are : (i ≡ inputs k b) × (m ≡ outputs k b) × (p ≡ patches k b)
+      unfolding infoAnswerOf infoOf
+      counts-are = (
+        ei ∙ rw ha (field-count (containerAnswered k b inputElements)),
+        em ∙ rw ha (field-count (containerAnswered k b outputElements)),
+        ep ∙ rw ha (field-count (containerAnswered k b patchElements)),
+      )
+
+      pub counts-short : i + m + p < 4294967296
+      counts-short = let (qi, qm, qp) = counts-are in rw (qi, qm, qp) (totals-short k b opens)
+
+      -- the list's records lie inside the records c, w bytes apart
+      module _ {f n w : ℕ} (c : List ℕ) (ef : f ≡ listBefore s i m) (en : n ≡ listSize s i m p) (ew : w ≡ length c / (i + m + p)) where
+        within : f + n ≤ i + m + p
+        within = rw (ef, en) (list-within s i m p)
+
+        pub list-short : f + n ≤ 4294967296
+        list-short = omega (arith, within, counts-short)
+
+        pub list-inside : (f + n) * w ≤ length c
+        list-inside = le-trans (mul-le-mul-right w within) (rw ew (mul-div-le (length c) (i + m + p)))
+
+        pub difference-is : {t : List ℕ} {x : Found}
+            → t ≡ bytesBeside (containerJudged k b) (handed (editionRead k (psvOf b)) (psvOf b) stringTable)
+            → c ≡ bytesBeside (containerJudged k b) (handed (editionRead k (psvOf b)) (psvOf b) elementRecords)
+            → x ≡ firstDifference (take (r .start + r .len - r .start) (drop (r .start) b)) (listed t c f n w)
+            → record { verdict = Accepted; first = x } ≡ differenceOf s k b
+        unfolding differenceOf
+        difference-is {t} et ec ex =
+            let (qi, qm, qp) = counts-are in
+            let t′ : t ≡ handed (editionRead k (psvOf b)) (psvOf b) stringTable = et ∙ rw opens in
+            let c′ : c ≡ handed (editionRead k (psvOf b)) (psvOf b) elementRecords = ec ∙ rw opens in
+            let same : (j : ℕ) → listed t c f n w j ≡ psvName s (containerAnswered k b) j =
+            λ j. rw (t′, ew, c′, ef, en, qi, qm, qp) (names-listed k b opens s j) in
+            let names : listed t c f n w ≡ psvName s (containerAnswered k b) = λ q j. same j q in
+            rw (accepted, ex, stretch-is, names)
+
+-- ---- whether element i differs from the list's: f is the first element's offset, o the element's name offset
+module _ (d : List ℕ) (i : ℕ) (t c : List ℕ) (before size w : ℕ) {f o : ℕ} (ef : f ≡ firstOf d)
+    (eo : o ≡ u32At (take (f + 32 * i + 32 - (f + 32 * i)) (drop (f + 32 * i) d)) 4) where
+  offset-is : o ≡ nameOffset d i
+  offset-is = offset-read d i {at = f + 32 * i} (rw ef) eo
+
+  pub passed-over : o ≡ 0 → false ≡ differsAt d (listed t c before size w) i
+  unfolding differsAt
+  passed-over e = rw (← offset-is, eq-eqb o 0 e)
+
+  module _ (z : o ≡ 0 → ⊥) where
+    named : {x : Value} → listed t c before size w i ≡ x → differs (stringAt d o) x ≡ differsAt d (listed t c before size w) i
+    unfolding differsAt
+    named e = rw (← offset-is, ne-eqb o 0 z, e)
+
+    pub missing : size ≤ i → true ≡ differsAt d (listed t c before size w) i
+    unfolding listed
+    missing h = named {x = unset} (rw (le-ltb i size h))
+
+    -- the name there is the string at q
+    pub compared : i < size → {q : ℕ} {x : Bool} → q ≡ u32At c ((before + i) * w) → x ≡ sameBytes (stringAt d o) (stringAt t q)
+        → not x ≡ differsAt d (listed t c before size w) i
+    unfolding listed
+    compared h {q} eq ex = rw ex (named {x = view (stringAt t q)} (rw (lt-ltb i size h, eq)))
+
+pub place-inside : (i w before size l : ℕ) → i < size → (before + size) * w ≤ l → (before + i) * w ≤ l
+place-inside i w before size l h f = le-trans (mul-le-mul-right w (let g : before + i ≤ before + size = omega arith in g)) f
+
+-- ---- the search over the elements, n of them: it has come to i
+module _ (d : List ℕ) (names : ℕ → Value) {n : ℕ} (en : n ≡ countOf d) {i : ℕ} (sr : Searched (differsAt d names) (countOf d) i) where
+  pub found-first : i < n → differsAt d names i ≡ true → FoundAt i ≡ firstDifference d names
+  unfolding firstDifference
+  found-first h e =
+      let l : i < countOf d = rw en at h in
+      let q = found _ _ sr l e in
+      rw (← q, lt-ltb i (countOf d) l)
+
+  pub found-none : n ≤ i → Nothing ≡ firstDifference d names
+  unfolding firstDifference
+  found-none h =
+      let l : countOf d ≤ i = rw en at h in
+      let q = none _ _ sr l in
+      rw (← q, le-ltb i (countOf d) l)
+
+-- ---- an answer about the part's data, as one about the container
+module _ (m : ℕ) (a : SignatureAnswer) where
+  pub stays : a .name ≡ Unset → a ≡ moved m a
+  stays e = let p : a .name ≡ movedName m (a .name) = rw e in λ i. record { verdict = a .verdict; element = a .element; name = p i }
+
+  pub moves : {s n : ℕ} → a .name ≡ At s n → record { verdict = a .verdict; element = a .element; name = At (m + s) n } ≡ moved m a
+  moves e = rw e
