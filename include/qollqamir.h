@@ -90,7 +90,7 @@ typedef struct {
     qollqamir_field flags;
 } qollqamir_resource_record;
 
-/* A signature element's record. */
+/* The record of a signature element in PSV0. */
 typedef struct {
     qollqamir_verdict verdict;
     qollqamir_field name_offset;
@@ -162,6 +162,46 @@ typedef struct {
     size_t stages;
 } qollqamir_program_report;
 
+/* The data of a part ISG1, OSG1 or PSG1: the number of elements. */
+typedef struct {
+    qollqamir_verdict verdict;
+    size_t count;
+} qollqamir_signature_data;
+
+/* The report on a container's signature part: the number of elements, and the part's data as a stretch of the container. */
+typedef struct {
+    qollqamir_verdict verdict;
+    size_t count;
+    size_t start;
+    size_t len;
+} qollqamir_signature_report;
+
+/* An element of a signature part, as it stands; a name offset counts from the start of the part's data. named is 1 where the element has a
+   name, 0 where it has none (name offset 0); the name is a stretch of the bytes that were handed in. A name may be empty: 1, with length
+   0. */
+typedef struct {
+    qollqamir_verdict verdict;
+    uint32_t stream;
+    uint32_t name_offset;
+    uint32_t index;
+    uint32_t system_value;
+    uint32_t component_type;
+    uint32_t register_number;
+    uint32_t mask;
+    uint32_t exclusive_mask;
+    uint32_t precision;
+    uint32_t named;
+    size_t name_start;
+    size_t name_len;
+} qollqamir_signature_record;
+
+/* The first element that differs: 1 and its number, 0 and 0 where there is none. */
+typedef struct {
+    qollqamir_verdict verdict;
+    size_t found;
+    size_t number;
+} qollqamir_difference;
+
 /* Every byte of an answer is a byte of a field, so an answer can be written out, compared or hashed as it stands. A struct that is added
    gets its line here too. */
 #ifdef __cplusplus
@@ -225,6 +265,22 @@ QOLLQAMIR_NO_PADDING(qollqamir_program_report,
                      QOLLQAMIR_SIZE(qollqamir_program_report, verdict) + QOLLQAMIR_SIZE(qollqamir_program_report, header) +
                      QOLLQAMIR_SIZE(qollqamir_program_report, start) + QOLLQAMIR_SIZE(qollqamir_program_report, len) +
                      QOLLQAMIR_SIZE(qollqamir_program_report, psv0_stage) + QOLLQAMIR_SIZE(qollqamir_program_report, stages));
+QOLLQAMIR_NO_PADDING(qollqamir_signature_data,
+                     QOLLQAMIR_SIZE(qollqamir_signature_data, verdict) + QOLLQAMIR_SIZE(qollqamir_signature_data, count));
+QOLLQAMIR_NO_PADDING(qollqamir_signature_report,
+                     QOLLQAMIR_SIZE(qollqamir_signature_report, verdict) + QOLLQAMIR_SIZE(qollqamir_signature_report, count) +
+                     QOLLQAMIR_SIZE(qollqamir_signature_report, start) + QOLLQAMIR_SIZE(qollqamir_signature_report, len));
+QOLLQAMIR_NO_PADDING(qollqamir_signature_record,
+                     QOLLQAMIR_SIZE(qollqamir_signature_record, verdict) + QOLLQAMIR_SIZE(qollqamir_signature_record, stream) +
+                     QOLLQAMIR_SIZE(qollqamir_signature_record, name_offset) + QOLLQAMIR_SIZE(qollqamir_signature_record, index) +
+                     QOLLQAMIR_SIZE(qollqamir_signature_record, system_value) + QOLLQAMIR_SIZE(qollqamir_signature_record, component_type) +
+                     QOLLQAMIR_SIZE(qollqamir_signature_record, register_number) + QOLLQAMIR_SIZE(qollqamir_signature_record, mask) +
+                     QOLLQAMIR_SIZE(qollqamir_signature_record, exclusive_mask) + QOLLQAMIR_SIZE(qollqamir_signature_record, precision) +
+                     QOLLQAMIR_SIZE(qollqamir_signature_record, named) + QOLLQAMIR_SIZE(qollqamir_signature_record, name_start) +
+                     QOLLQAMIR_SIZE(qollqamir_signature_record, name_len));
+QOLLQAMIR_NO_PADDING(qollqamir_difference,
+                     QOLLQAMIR_SIZE(qollqamir_difference, verdict) + QOLLQAMIR_SIZE(qollqamir_difference, found) +
+                     QOLLQAMIR_SIZE(qollqamir_difference, number));
 #undef QOLLQAMIR_SIZE
 #undef QOLLQAMIR_NO_PADDING
 
@@ -253,6 +309,14 @@ enum {
     QOLLQAMIR_STAGES_UNSET = 0,
     QOLLQAMIR_STAGES_EQUAL = 1,
     QOLLQAMIR_STAGES_DIFFERENT = 2
+};
+
+/* Signature parts, and the lists of PSV0 that they are held against: input, output, patch constant or primitive. Any other number gives
+   26. */
+enum {
+    QOLLQAMIR_ISG1 = 0,
+    QOLLQAMIR_OSG1 = 1,
+    QOLLQAMIR_PSG1 = 2
 };
 
 /* The part table alone: 1 to 9. */
@@ -297,6 +361,34 @@ qollqamir_program_data qollqamir_dxil_program(const uint8_t *data, size_t len);
 
 /* The report on a container's DXIL part at an edition: what qollqamir_open gives, then 40 to 42. */
 qollqamir_program_report qollqamir_program(const uint8_t *bytes, size_t len, size_t edition);
+
+/* The data of a part ISG1, OSG1 or PSG1 alone: 43 (under 8 bytes), 44 (offset + 32 x count is above their length), 45 (the first element
+   whose name has no zero byte at its end inside them, its number as place). Names are stretches of the data. */
+qollqamir_signature_data qollqamir_sg1_read(const uint8_t *data, size_t len);
+
+/* Element i of such data: 43 to 45, then 26. */
+qollqamir_signature_record qollqamir_sg1_element(const uint8_t *data, size_t len, size_t i);
+
+/* Element i by itself, whatever the others are: 43, 26, 44 of its own 32 bytes, 45 of its own name. Where the data are accepted it is what
+   qollqamir_sg1_element gives, so data that were judged once can be listed without judging them anew for each element. A call reads the
+   name to its zero; names may share bytes, so to list hostile data can take as long as count times their length. */
+qollqamir_signature_record qollqamir_sg1_element_alone(const uint8_t *data, size_t len, size_t i);
+
+/* The name of element i: 43 to 45, then 26 where there is no such element or it has no name. */
+qollqamir_span qollqamir_sg1_name(const uint8_t *data, size_t len, size_t i);
+
+/* The report on a container's signature part at an edition: what qollqamir_open gives, 26 where the part is absent, then 43 to 45. Its
+   elements can be listed by qollqamir_sg1_element_alone on the stretch that it gives. */
+qollqamir_signature_report qollqamir_signature(const uint8_t *bytes, size_t len, size_t edition, uint32_t part);
+
+/* Element i of the part, and its name alone; names are stretches of the container: those of qollqamir_signature, then 26 as above. */
+qollqamir_signature_record qollqamir_signature_element(const uint8_t *bytes, size_t len, size_t edition, uint32_t part, size_t i);
+qollqamir_span qollqamir_signature_name(const uint8_t *bytes, size_t len, size_t edition, uint32_t part, size_t i);
+
+/* The first named element of the part whose name is not that of the PSV0 element of the same list and number, or that has no element beside
+   it (the list is shorter, or the edition read is 0): those of qollqamir_signature. Compilers leave the PSV0 name of a system value empty,
+   so most real shaders report element 0. */
+qollqamir_difference qollqamir_signature_difference(const uint8_t *bytes, size_t len, size_t edition, uint32_t part);
 
 /* Writes PSV0 data in plain form: 25; 27; 2; 15 to 24 as reader 3 would answer; 28. On a refusal out keeps every byte; bytes past the
    result keep their contents. */

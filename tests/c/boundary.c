@@ -1,5 +1,5 @@
 /* Calls the library through its C header: the boxes M and C of document 01, the last field of every struct, both writers, the program
-   header of document 02, every byte of the answers of every call, null pointers. */
+   header and the signature parts of document 02, every byte of the answers of every call, null pointers. */
 #include "qollqamir.h"
 
 #include <stdio.h>
@@ -99,6 +99,55 @@ static void dxil(uint8_t *out, uint32_t stage, uint32_t offset, uint32_t size) {
     for (uint8_t i = 24; i < 32; i++) {
         out[i] = i;
     }
+}
+
+/* PSV0 data of edition 3 with the names A and BC in the input list, BC in the output list, an empty one and A in the patch list. */
+static size_t box_s(uint8_t *out) {
+    static const uint32_t names[5] = {1, 3, 3, 0, 1};
+    size_t n = put32(out, 52);
+    memset(out + n, 0, 52);
+    out[n + 24] = 13;
+    put(out + n + 28, "\x02\x01\x02", 3);
+    n += 52;
+    n += put32(out + n, 0);
+    n += put32(out + n, 8);
+    n += put(out + n, "\0A\0BC\0\0\0", 8);
+    n += put32(out + n, 0);
+    n += put32(out + n, 16);
+    for (int i = 0; i < 5; i++) {
+        memset(out + n, 0, 16);
+        put32(out + n, names[i]);
+        n += 16;
+    }
+    return n;
+}
+
+/* Signature data of count elements from byte 8 on, whose bytes are numbered but for the name offsets, and strings after them. */
+static size_t sg1(uint8_t *out, uint32_t count, const uint32_t *names, const void *strings, size_t len) {
+    size_t n = put32(out, count);
+    n += put32(out + n, 8);
+    for (size_t i = 0; i < 32 * (size_t)count; i++) {
+        out[n + i] = (uint8_t)(0x10 + i);
+    }
+    for (uint32_t i = 0; i < count; i++) {
+        put32(out + n + 4, names[i]);
+        n += 32;
+    }
+    return n + put(out + n, strings, len);
+}
+
+/* A container of a DXIL part, a PSV0 part and one more, whose data are its last bytes. */
+static size_t shader_with(uint8_t *out, const uint8_t *psv0, size_t psv0_len, const char *four, const void *more, size_t len) {
+    uint8_t names[12], data[512];
+    const uint32_t sizes[3] = {4, (uint32_t)psv0_len, (uint32_t)len};
+    put(names, "DXILPSV0", 8);
+    put(names + 8, four, 4);
+    size_t n = put(data, "code", 4);
+    n += put(data + n, psv0, psv0_len);
+    n += put(data + n, more, len);
+    qollqamir_written written = qollqamir_assemble(names, 12, sizes, 3, data, n, name("0123456789abcdef"), 16, out, 512);
+    ACCEPTED(written);
+    return written.len;
 }
 
 static bool shows(const uint8_t *bytes, qollqamir_span span, const void *expected, size_t len) {
@@ -579,21 +628,331 @@ static void test_program(void) {
     REFUSED(qollqamir_program(c, len, 3), 24, 0);
 }
 
+/* ---- the signature parts */
+
+static const char *const signature_parts[] = {"ISG1", "OSG1", "PSG1"};
+enum { PARTS = 3 };
+
+/* What element i of accepted data shows, where the data start at a place. */
+static qollqamir_signature_record shown(const uint8_t *data, size_t i, size_t at) {
+    const uint8_t *e = data + get32(data + 4) + 32 * i;
+    uint32_t o = get32(e + 4);
+    return (qollqamir_signature_record){
+        .stream = get32(e),
+        .name_offset = o,
+        .index = get32(e + 8),
+        .system_value = get32(e + 12),
+        .component_type = get32(e + 16),
+        .register_number = get32(e + 20),
+        .mask = e[24],
+        .exclusive_mask = e[25],
+        .precision = get32(e + 28),
+        .named = o != 0,
+        .name_start = o == 0 ? 0 : at + o,
+        .name_len = o == 0 ? 0 : strlen((const char *)data + o),
+    };
+}
+
+static void same_record(qollqamir_signature_record got, qollqamir_signature_record expected) {
+    CHECK(memcmp(&got, &expected, sizeof got) == 0);
+}
+
+/* A name is that of the record, or 26; beside a refusal it is empty. */
+static void same_name(qollqamir_span got, qollqamir_signature_record record) {
+    qollqamir_span expected = {record.verdict, record.name_start, record.name_len};
+    if (record.verdict.number == 0 && record.named == 0) {
+        expected.verdict.number = 26;
+    }
+    CHECK(memcmp(&got, &expected, sizeof got) == 0);
+}
+
+/* The four calls on a part of a container, refused. */
+static void no_signature(const uint8_t *bytes, size_t n, size_t edition, uint32_t part, size_t number, size_t place) {
+    qollqamir_signature_report report = qollqamir_signature(bytes, n, edition, part), no_report = {.verdict = {number, place}};
+    qollqamir_difference first = qollqamir_signature_difference(bytes, n, edition, part), no_first = {.verdict = {number, place}};
+    qollqamir_signature_record record = {.verdict = {number, place}};
+    CHECK(memcmp(&report, &no_report, sizeof report) == 0);
+    CHECK(memcmp(&first, &no_first, sizeof first) == 0);
+    static const size_t numbers[] = {0, 1, SIZE_MAX};
+    for (int k = 0; k < 3; k++) {
+        same_record(qollqamir_signature_element(bytes, n, edition, part, numbers[k]), record);
+        same_name(qollqamir_signature_name(bytes, n, edition, part, numbers[k]), record);
+    }
+}
+
+/* Every call on signature data, and on each part of a container that has them, at every edition; accepted where number is 0. */
+static void signature(const uint8_t *data, size_t len, size_t number, size_t place) {
+    size_t count = number == 0 ? get32(data) : 0;
+    qollqamir_signature_data read = qollqamir_sg1_read(data, len);
+    REFUSED(read, number, place);
+    CHECK(read.count == count);
+    qollqamir_signature_record past = {.verdict = {number == 0 ? 26 : number, place}};
+    const size_t beyond[] = {count, count + 1, (size_t)1 << 27, SIZE_MAX};
+    for (size_t i = 0; i < count; i++) {
+        qollqamir_signature_record expected = shown(data, i, 0);
+        same_record(qollqamir_sg1_element(data, len, i), expected);
+        same_record(qollqamir_sg1_element_alone(data, len, i), expected);
+        same_name(qollqamir_sg1_name(data, len, i), expected);
+    }
+    for (int k = 0; k < 4; k++) {
+        same_record(qollqamir_sg1_element(data, len, beyond[k]), past);
+        same_name(qollqamir_sg1_name(data, len, beyond[k]), past);
+    }
+
+    uint8_t psv0[192], bytes[512];
+    size_t psv0_len = box_s(psv0);
+    for (uint32_t part = 0; part < PARTS; part++) {
+        size_t n = shader_with(bytes, psv0, psv0_len, signature_parts[part], data, len);
+        for (size_t edition = 0; edition <= 3; edition++) {
+            ACCEPTED(qollqamir_open(bytes, n, edition));
+            for (uint32_t other = 0; other < 5; other++) {
+                if (other != part) {
+                    no_signature(bytes, n, edition, other, 26, 0);
+                }
+            }
+            no_signature(bytes, n, edition, UINT32_MAX - part, 26, 0);
+            if (number != 0) {
+                no_signature(bytes, n, edition, part, number, place);
+                continue;
+            }
+            qollqamir_signature_report report = qollqamir_signature(bytes, n, edition, part);
+            ACCEPTED(report);
+            CHECK(report.count == count && report.start == n - len && report.len == len);
+            for (size_t i = 0; i < count; i++) {
+                qollqamir_signature_record expected = shown(data, i, report.start);
+                same_record(qollqamir_signature_element(bytes, n, edition, part, i), expected);
+                same_name(qollqamir_signature_name(bytes, n, edition, part, i), expected);
+                /* The stretch is data that were judged. */
+                same_record(qollqamir_sg1_element_alone(bytes + report.start, report.len, i), shown(data, i, 0));
+            }
+            for (int k = 0; k < 4; k++) {
+                same_record(qollqamir_signature_element(bytes, n, edition, part, beyond[k]), past);
+                same_name(qollqamir_signature_name(bytes, n, edition, part, beyond[k]), past);
+            }
+            ACCEPTED(qollqamir_signature_difference(bytes, n, edition, part));
+        }
+        no_signature(bytes, n, 4, part, 25, 0);
+        no_signature(bytes, n, 4, PARTS, 25, 0);
+        no_signature(bytes, n - 1, 3, part, 5, 0);
+        no_signature(bytes, n - 1, 3, PARTS, 5, 0);
+    }
+}
+
+static void test_signature(void) {
+    uint8_t data[128], bytes[512], psv0[192];
+    static const uint32_t names[3] = {104, 0, 106}, unset[3] = {0, 0, 0};
+    size_t len = sg1(data, 3, names, "A\0BC\0", 5);
+    signature(data, len, 0, 0);
+    /* The same once more in plain numbers. */
+    CHECK(len == 109 && qollqamir_sg1_read(data, len).count == 3);
+    qollqamir_signature_record record = qollqamir_sg1_element(data, len, 2);
+    ACCEPTED(record);
+    CHECK(record.stream == 0x53525150 && record.name_offset == 106 && record.index == 0x5b5a5958);
+    CHECK(record.system_value == 0x5f5e5d5c && record.component_type == 0x63626160 && record.register_number == 0x67666564);
+    CHECK(record.mask == 0x68 && record.exclusive_mask == 0x69 && record.precision == 0x6f6e6d6c);
+    CHECK(record.named == 1 && record.name_start == 106 && record.name_len == 2);
+    CHECK(shows(data, qollqamir_sg1_name(data, len, 2), "BC", 2));
+    record = qollqamir_sg1_element(data, len, 1);
+    ACCEPTED(record);
+    CHECK(record.precision == 0x4f4e4d4c && record.named == 0 && record.name_start == 0 && record.name_len == 0);
+    REFUSED(qollqamir_sg1_name(data, len, 1), 26, 0);
+    REFUSED(qollqamir_sg1_element(data, len, 3), 26, 0);
+    size_t n = shader_with(bytes, psv0, box_s(psv0), "OSG1", data, len);
+    qollqamir_signature_report report = qollqamir_signature(bytes, n, 3, QOLLQAMIR_OSG1);
+    ACCEPTED(report);
+    CHECK(n == 341 && report.count == 3 && report.start == 232 && report.len == 109);
+    CHECK(qollqamir_signature_element(bytes, n, 3, QOLLQAMIR_OSG1, 2).name_start == 338);
+    CHECK(shows(bytes, qollqamir_signature_name(bytes, n, 3, QOLLQAMIR_OSG1, 2), "BC", 2));
+    REFUSED(qollqamir_signature_name(bytes, n, 3, QOLLQAMIR_OSG1, 1), 26, 0);
+    REFUSED(qollqamir_signature(bytes, n, 3, QOLLQAMIR_ISG1), 26, 0);
+
+    /* Under 8 bytes. */
+    for (len = 0; len < 8; len++) {
+        signature(data, len, 43, 0);
+    }
+    signature(data, 8, 44, 0);
+    /* Elements that end with the data or one byte past them, by the offset, the count or the length; none may start anywhere up to the
+       end. */
+    len = sg1(data, 3, unset, "", 0);
+    CHECK(len == 104);
+    for (uint32_t count = 0; count <= 3; count++) {
+        put32(data, count);
+        put32(data + 4, 104 - 32 * count);
+        signature(data, len, 0, 0);
+        signature(data, len - 1, 44, 0);
+        put32(data + 4, 105 - 32 * count);
+        signature(data, len, 44, 0);
+        put32(data, count + 1);
+        put32(data + 4, 104 - 32 * count);
+        signature(data, len, 44, 0);
+    }
+    put32(data, 0);
+    for (uint32_t offset = 0; offset <= 8; offset++) {
+        put32(data + 4, offset);
+        signature(data, 8, 0, 0);
+    }
+    put32(data + 4, 9);
+    signature(data, 8, 44, 0);
+    /* At or past 2^32, where 32 bits would take the sum back inside the data. */
+    static const uint32_t past[][2] = {
+        {0x08000000, 0}, {0x08000000, 8}, {0x08000003, 8}, {0x10000003, 8}, {0x07ffffff, 0x20}, {0x07ffffff, 0x88}, {0x80000000, 8},
+        {0xffffffff, 8}, {0xffffffff, 0x28}, {0xffffffff, 0xffffffff}, {0, 0xffffffff}, {1, 0xffffffe0}, {3, 0xffffffa0}, {3, 0xffffffff},
+    };
+    for (size_t i = 0; i < sizeof past / sizeof *past; i++) {
+        put32(data, past[i][0]);
+        put32(data + 4, past[i][1]);
+        signature(data, len, 44, 0);
+    }
+
+    /* The last zero byte is at 105. Up to there a name is good wherever it starts, in the header and in an element too; from there on it is
+       not, and the first such element counts. */
+    for (uint32_t i = 0; i < 3; i++) {
+        len = sg1(data, 3, names, "A\0BC", 4);
+        put32(data + 12 + 32 * 2, 0);
+        for (uint32_t o = 1; o <= 105; o++) {
+            put32(data + 12 + 32 * i, o);
+            signature(data, len, 0, 0);
+        }
+        static const uint32_t bad[] = {106, 107, 108, 109, 0x80000000, 0xffffffff};
+        for (size_t k = 0; k < sizeof bad / sizeof *bad; k++) {
+            put32(data + 12 + 32 * i, bad[k]);
+            signature(data, len, 45, i);
+            put32(data + 12 + 32 * 2, 108);
+            signature(data, len, 45, i);
+            put32(data + 12 + 32 * 2, i == 2 ? bad[k] : 0);
+        }
+        /* 44 comes before it. */
+        put32(data, 4);
+        signature(data, len, 44, 0);
+    }
+    /* With a zero for its last byte a name may start there: it is set, and empty. */
+    len = sg1(data, 3, names, "A\0BC\0", 5);
+    put32(data + 12, 108);
+    signature(data, len, 0, 0);
+    record = qollqamir_sg1_element(data, len, 0);
+    CHECK(record.named == 1 && record.name_start == 108 && record.name_len == 0);
+    CHECK(shows(data, qollqamir_sg1_name(data, len, 0), "", 0));
+
+    /* An element by itself: the others may be bad. 26 comes before 44, and 44 before 45. */
+    static const uint32_t middle[3] = {104, 106, 105};
+    len = sg1(data, 3, middle, "A\0BC", 4);
+#define ALONE(i, n, p) same_record(qollqamir_sg1_element_alone(data, len, i), (qollqamir_signature_record){.verdict = {n, p}})
+    static const uint32_t counts[] = {3, 4, 0xffffffff};
+    for (int k = 0; k < 3; k++) {
+        bool inside = counts[k] == 3;
+        put32(data, counts[k]);
+        REFUSED(qollqamir_sg1_element(data, len, 0), inside ? 45 : 44, inside ? 1 : 0);
+        same_record(qollqamir_sg1_element_alone(data, len, 0), shown(data, 0, 0));
+        ALONE(1, 45, 1);
+        same_record(qollqamir_sg1_element_alone(data, len, 2), shown(data, 2, 0));
+        ALONE(3, inside ? 26 : 44, 0);
+        if (!inside) {
+            ALONE(counts[k] - 1, 44, 0);
+        }
+        ALONE(counts[k], 26, 0);
+        ALONE(SIZE_MAX, 26, 0);
+    }
+    put32(data, 1);
+    put32(data + 4, 76);
+    put32(data + 80, 0);
+    same_record(qollqamir_sg1_element_alone(data, len, 0), shown(data, 0, 0));
+    put32(data + 80, 108);
+    ALONE(0, 45, 0);
+    put32(data + 4, 77);
+    ALONE(0, 44, 0);
+    put32(data + 4, 0xffffffff);
+    ALONE(0, 44, 0);
+    ALONE(1, 26, 0);
+    len = 7;
+    ALONE(0, 43, 0);
+    ALONE(1, 43, 0);
+#undef ALONE
+
+    /* The refusals of opening come first: with a wrong entry name only reader 3 doesn't open the container. */
+    len = box_c(psv0, 52, 8);
+    n = shader_with(bytes, psv0, len, "ISG1", "short", 5);
+    for (uint32_t part = 0; part <= PARTS; part++) {
+        no_signature(bytes, n, 2, part, part == QOLLQAMIR_ISG1 ? 43 : 26, 0);
+        no_signature(bytes, n, 3, part, 24, 0);
+    }
+}
+
+/* A part with these names, each a letter: A, b for BC, B, d for BCD, e for an empty one, - for none. first is the number of the first that
+   differs from PSV0's, or -1. */
+static void difference(uint32_t part, const char *letters, int first) {
+    static const char known[] = "AbBde";
+    static const uint32_t places[] = {0, 2, 5, 7, 1};
+    uint32_t names[4] = {0}, count = (uint32_t)strlen(letters);
+    for (uint32_t i = 0; i < count; i++) {
+        names[i] = letters[i] == '-' ? 0 : 8 + 32 * count + places[strchr(known, letters[i]) - known];
+    }
+    uint8_t data[192], psv0[192], bytes[512];
+    size_t len = sg1(data, count, names, "A\0BC\0B\0BCD\0", 11);
+    size_t named = strspn(letters, "-");
+    /* PSV0 data of edition 3, then of edition 0. */
+    for (int box = 0; box < 2; box++) {
+        size_t psv0_len = box == 0 ? box_s(psv0) : box_m(psv0, 24, 24);
+        size_t n = shader_with(bytes, psv0, psv0_len, signature_parts[part], data, len);
+        for (size_t edition = 0; edition <= 3; edition++) {
+            qollqamir_difference got = qollqamir_signature_difference(bytes, n, edition, part);
+            ACCEPTED(got);
+            if (box == 0 && edition > 0) {
+                CHECK(got.found == (first >= 0) && got.number == (size_t)(first < 0 ? 0 : first));
+            } else {
+                /* Without lists the first name is missing there. */
+                CHECK(got.found == (named < count) && got.number == (named < count ? named : 0));
+            }
+        }
+    }
+}
+
+static void test_difference(void) {
+    difference(QOLLQAMIR_ISG1, "", -1);
+    difference(QOLLQAMIR_ISG1, "--", -1);
+    difference(QOLLQAMIR_ISG1, "Ab", -1);
+    difference(QOLLQAMIR_ISG1, "A", -1);
+    difference(QOLLQAMIR_ISG1, "-b", -1);
+    difference(QOLLQAMIR_ISG1, "A--", -1);
+    difference(QOLLQAMIR_ISG1, "bb", 0);
+    difference(QOLLQAMIR_ISG1, "bA", 0);
+    difference(QOLLQAMIR_ISG1, "eb", 0);
+    /* The start of PSV0's name, one that PSV0's is the start of, none of it. */
+    difference(QOLLQAMIR_ISG1, "AB", 1);
+    difference(QOLLQAMIR_ISG1, "Ad", 1);
+    difference(QOLLQAMIR_ISG1, "Ae", 1);
+    difference(QOLLQAMIR_ISG1, "-A", 1);
+    /* Past the list, where an empty name is missing too. */
+    difference(QOLLQAMIR_ISG1, "AbA", 2);
+    difference(QOLLQAMIR_ISG1, "Abe", 2);
+    difference(QOLLQAMIR_ISG1, "---e", 3);
+    /* The output list starts after the input list, the patch list after both. */
+    difference(QOLLQAMIR_OSG1, "b", -1);
+    difference(QOLLQAMIR_OSG1, "A", 0);
+    difference(QOLLQAMIR_OSG1, "be", 1);
+    difference(QOLLQAMIR_OSG1, "-A", 1);
+    difference(QOLLQAMIR_PSG1, "eA", -1);
+    difference(QOLLQAMIR_PSG1, "-A", -1);
+    difference(QOLLQAMIR_PSG1, "AA", 0);
+    difference(QOLLQAMIR_PSG1, "eb", 1);
+    difference(QOLLQAMIR_PSG1, "eAb", 2);
+}
+
 /* ---- every byte of an answer */
 
-/* The calls. Those up to OPEN_DEFAULT take no edition, nor does DXIL_PROGRAM; those on PSV0 data alone stand in the order of those on
-   containers. */
+/* The calls. Those up to OPEN_DEFAULT take no edition, nor do those from DXIL_PROGRAM to SG1_NAME; those on PSV0 data alone stand in the
+   order of those on containers. */
 enum call {
-    TABLE, TABLE_PART, KNOWN, OPEN_DEFAULT, PART, PROGRAM,
+    TABLE, TABLE_PART, KNOWN, OPEN_DEFAULT, PART, PROGRAM, SIGNATURE, SIGNATURE_ELEMENT, SIGNATURE_NAME, SIGNATURE_DIFFERENCE,
     OPEN, INFO, RESOURCE, ELEMENT, LENGTHS, VIEW, SECTION,
     PSV0_OPEN, PSV0_INFO, PSV0_RESOURCE, PSV0_ELEMENT, PSV0_LENGTHS, PSV0_VIEW, PSV0_SECTION,
-    DXIL_PROGRAM, WRITE_PSV0, ASSEMBLE, CALLS
+    DXIL_PROGRAM, SG1_READ, SG1_ELEMENT, SG1_ELEMENT_ALONE, SG1_NAME, WRITE_PSV0, ASSEMBLE, CALLS
 };
 
-/* The greatest refusal number of any call is below this. */
-enum { NUMBERS = 43 };
+/* The greatest refusal number of any call is below the one, the greatest place that is come by below the other. */
+enum { NUMBERS = 46, PLACES = 5 };
 
-/* A call and what it is handed. A writer's byte arguments lie end to end in bytes, and pieces has their lengths. */
+/* A call and what it is handed; a signature part's number is its kind. A writer's byte arguments lie end to end in bytes, and pieces has
+   their lengths. */
 struct question {
     enum call call;
     const uint8_t *bytes;
@@ -639,6 +998,10 @@ __attribute__((noinline)) static size_t answer(const struct question *q, uint8_t
     case OPEN_DEFAULT: ANSWER(qollqamir_opening, qollqamir_open_default(b, n))
     case PART: ANSWER(qollqamir_found, qollqamir_part(b, n, e, four))
     case PROGRAM: ANSWER(qollqamir_program_report, qollqamir_program(b, n, e))
+    case SIGNATURE: ANSWER(qollqamir_signature_report, qollqamir_signature(b, n, e, k))
+    case SIGNATURE_ELEMENT: ANSWER(qollqamir_signature_record, qollqamir_signature_element(b, n, e, k, i))
+    case SIGNATURE_NAME: ANSWER(qollqamir_span, qollqamir_signature_name(b, n, e, k, i))
+    case SIGNATURE_DIFFERENCE: ANSWER(qollqamir_difference, qollqamir_signature_difference(b, n, e, k))
     case OPEN: ANSWER(qollqamir_opening, qollqamir_open(b, n, e))
     case INFO: ANSWER(qollqamir_info, qollqamir_runtime_info(b, n, e))
     case RESOURCE: ANSWER(qollqamir_resource_record, qollqamir_resource(b, n, e, i))
@@ -654,6 +1017,10 @@ __attribute__((noinline)) static size_t answer(const struct question *q, uint8_t
     case PSV0_VIEW: ANSWER(qollqamir_span, qollqamir_psv0_view(b, n, e, k, i))
     case PSV0_SECTION: ANSWER(qollqamir_span, qollqamir_psv0_section(b, n, e, k))
     case DXIL_PROGRAM: ANSWER(qollqamir_program_data, qollqamir_dxil_program(b, n))
+    case SG1_READ: ANSWER(qollqamir_signature_data, qollqamir_sg1_read(b, n))
+    case SG1_ELEMENT: ANSWER(qollqamir_signature_record, qollqamir_sg1_element(b, n, i))
+    case SG1_ELEMENT_ALONE: ANSWER(qollqamir_signature_record, qollqamir_sg1_element_alone(b, n, i))
+    case SG1_NAME: ANSWER(qollqamir_span, qollqamir_sg1_name(b, n, i))
     case WRITE_PSV0:
         ANSWER(qollqamir_written, qollqamir_write_psv0(e, PIECE(0), PIECE(1), PIECE(2), PIECE(3), PIECE(4), PIECE(5), q->out, q->room))
     case ASSEMBLE: ANSWER(qollqamir_written, qollqamir_assemble(PIECE(0), q->sizes, 2, PIECE(1), PIECE(2), q->out, q->room))
@@ -696,7 +1063,7 @@ static struct refusal {
     uint8_t answer[sizeof(qollqamir_parts)], bytes[512];
     size_t answer_len, len;
     bool paired;
-} refusals[CALLS][NUMBERS][4];
+} refusals[CALLS][NUMBERS][PLACES];
 
 /* Asks twice and compares. The second time the stack and the answer's place hold another pattern, and the bytes, the output and the stack
    are at other addresses: what stood in memory before would differ, and an address too. A refused answer is also compared with the first
@@ -733,7 +1100,7 @@ static qollqamir_verdict ask(const struct question *question) {
         return verdict;
     }
     refused[q->call]++;
-    CHECK(verdict.number < NUMBERS && verdict.place < 4);
+    CHECK(verdict.number < NUMBERS && verdict.place < PLACES);
     struct refusal *first = &refusals[q->call][verdict.number][verdict.place];
     if (first->answer_len == 0) {
         first->answer_len = put(first->answer, answers[0], len);
@@ -757,6 +1124,24 @@ static const struct question queries[] = {
     {.call = PART, .name = "PSV0"},
     {.call = PART, .name = "VERS"},
     {.call = PROGRAM},
+    {.call = SIGNATURE, .kind = QOLLQAMIR_ISG1},
+    {.call = SIGNATURE, .kind = QOLLQAMIR_OSG1},
+    {.call = SIGNATURE, .kind = QOLLQAMIR_PSG1},
+    {.call = SIGNATURE, .kind = PARTS},
+    {.call = SIGNATURE_ELEMENT, .kind = QOLLQAMIR_ISG1, .number = 0},
+    {.call = SIGNATURE_ELEMENT, .kind = QOLLQAMIR_OSG1, .number = 0},
+    {.call = SIGNATURE_ELEMENT, .kind = QOLLQAMIR_PSG1, .number = 1},
+    {.call = SIGNATURE_ELEMENT, .kind = QOLLQAMIR_ISG1, .number = 9},
+    {.call = SIGNATURE_ELEMENT, .kind = PARTS},
+    {.call = SIGNATURE_NAME, .kind = QOLLQAMIR_ISG1, .number = 0},
+    {.call = SIGNATURE_NAME, .kind = QOLLQAMIR_OSG1, .number = 0},
+    {.call = SIGNATURE_NAME, .kind = QOLLQAMIR_PSG1, .number = 0},
+    {.call = SIGNATURE_NAME, .kind = QOLLQAMIR_ISG1, .number = 9},
+    {.call = SIGNATURE_NAME, .kind = PARTS},
+    {.call = SIGNATURE_DIFFERENCE, .kind = QOLLQAMIR_ISG1},
+    {.call = SIGNATURE_DIFFERENCE, .kind = QOLLQAMIR_OSG1},
+    {.call = SIGNATURE_DIFFERENCE, .kind = QOLLQAMIR_PSG1},
+    {.call = SIGNATURE_DIFFERENCE, .kind = PARTS},
     {.call = OPEN},
     {.call = INFO},
     {.call = RESOURCE, .number = 0},
@@ -804,6 +1189,15 @@ static void ask_reader(struct question file) {
 }
 
 static void ask_dxil(struct question q) { ask(&q); }
+
+/* Every call on signature data, of each element up to one that there is not. */
+static void ask_sg1(struct question q) {
+    for (q.call = SG1_READ; q.call <= SG1_NAME; q.call++) {
+        for (q.number = 0; q.number < (q.call == SG1_READ ? 1 : 4); q.number++) {
+            ask(&q);
+        }
+    }
+}
 
 /* A writer with room for all and with a byte too little, at every edition where it takes one. */
 static void ask_writer(struct question q) {
@@ -855,6 +1249,23 @@ static size_t sections_of(const uint8_t *psv0, size_t len, uint8_t *out, size_t 
     return n;
 }
 
+/* A container of DXIL, PSV0 and all three signature parts. The second input element and the first patch element have no name; the size of
+   the output part is 66, which one changed byte takes below 8. */
+static size_t box_signed(uint8_t *out) {
+    static const uint32_t names[][2] = {{72, 0}, {40, 0}, {0, 72}};
+    uint8_t data[512];
+    uint32_t sizes[5] = {4};
+    size_t n = put(data, "code", 4);
+    n += sizes[1] = (uint32_t)box_s(data + n);
+    n += sizes[2] = (uint32_t)sg1(data + n, 2, names[0], "A", 2);
+    n += sizes[3] = (uint32_t)sg1(data + n, 1, names[1], "BC\0.......................", 26);
+    n += sizes[4] = (uint32_t)sg1(data + n, 2, names[2], "A", 2);
+    qollqamir_written written =
+        qollqamir_assemble(name("DXILPSV0ISG1OSG1PSG1"), 20, sizes, 5, data, n, name("0123456789abcdef"), 16, out, 512);
+    ACCEPTED(written);
+    return written.len;
+}
+
 static void test_every_byte(void) {
     static const char *const names[] = {"DXIL", "VERS", "XXXX", "dxil"};
     for (int i = 0; i < 4; i++) {
@@ -883,15 +1294,25 @@ static void test_every_byte(void) {
             around(ask_writer, q, bytes);
         }
     }
-    uint8_t data[32], psv0[128], bytes[192];
+    uint8_t data[128], psv0[128], bytes[512];
     dxil(data, 5, 16, 8);
-    size_t n = shader_of(bytes, data, sizeof data, psv0, box_c(psv0, 52, 1));
-    around(ask_dxil, (struct question){.call = DXIL_PROGRAM, .len = sizeof data}, data);
+    size_t n = shader_of(bytes, data, 32, psv0, box_c(psv0, 52, 1));
+    around(ask_dxil, (struct question){.call = DXIL_PROGRAM, .len = 32}, data);
+    around(ask_reader, (struct question){.call = OPEN, .len = n}, bytes);
+    static const uint32_t offsets[3] = {104, 0, 106};
+    n = sg1(data, 3, offsets, "A\0BC", 5);
+    around(ask_sg1, (struct question){.call = SG1_READ, .len = n}, data);
+    n = box_signed(bytes);
     around(ask_reader, (struct question){.call = OPEN, .len = n}, bytes);
     for (int call = 0; call < CALLS; call++) {
         CHECK(accepted[call] > 0 && refused[call] > 0);
+        if ((call >= SIGNATURE && call <= SIGNATURE_DIFFERENCE) || (call >= SG1_READ && call <= SG1_NAME)) {
+            for (int number = 43; number <= 45; number++) {
+                CHECK(refusals[call][number][0].answer_len > 0);
+            }
+        }
     }
-    CHECK(triples >= 430);
+    CHECK(triples >= 690);
     printf("c answers: %zu calls made twice; %zu refused answers equal to that of another file, of %zu calls, numbers and places\n", asked,
            paired, triples);
 }
@@ -916,6 +1337,10 @@ static void test_null(void) {
 
     qollqamir_verdict verdict = ask(&(struct question){.call = DXIL_PROGRAM});
     CHECK(verdict.number == 40 && verdict.place == 0);
+    for (enum call call = SG1_READ; call <= SG1_NAME; call++) {
+        verdict = ask(&(struct question){.call = call});
+        CHECK(verdict.number == 43 && verdict.place == 0);
+    }
 
     uint8_t runtime[52] = {0}, out[64];
     const uint8_t *digest = name("0123456789abcdef");
@@ -953,6 +1378,8 @@ int main(void) {
     test_last_entries();
     test_writers();
     test_program();
+    test_signature();
+    test_difference();
     test_every_byte();
     test_null();
     printf("c boundary: %d checks passed\n", checks);

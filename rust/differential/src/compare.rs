@@ -8,6 +8,7 @@ use reference::{Opening, Program, ProgramReport, Refusal};
 
 use crate::make::get4;
 use crate::random::Random;
+use crate::signatures;
 
 /// A difference, and the bytes it was seen on.
 #[derive(Debug)]
@@ -43,10 +44,21 @@ pub enum Call {
     Assemble,
     Program,
     Dxil,
+    Signature,
+    Element,
+    Name,
+    Difference,
+    Sg1,
+    Sg1Element,
+    Sg1Alone,
+    Sg1Name,
 }
 
+/// The numbers of the calls on a container's signature parts.
+const REPORTED: &[u8] = &[1, 2, 3, 4, 5, 6, 7, 8, 9, 10, 11, 12, 13, 14, 15, 16, 17, 18, 19, 20, 21, 22, 23, 24, 25, 26, 43, 44, 45];
+
 /// The calls, and the numbers that each can give.
-pub const CALLS: [(&str, &[u8]); 8] = [
+pub const CALLS: [(&str, &[u8]); 16] = [
     ("table", &[1, 2, 3, 4, 5, 6, 7, 8, 9]),
     ("open", &[1, 2, 3, 4, 5, 6, 7, 8, 9, 10, 11, 12, 13, 14, 15, 16, 17, 18, 19, 20, 21, 22, 23, 24, 25]),
     ("psv0", &[2, 12, 13, 14, 15, 16, 17, 18, 19, 20, 21, 22, 23, 24, 25]),
@@ -55,32 +67,89 @@ pub const CALLS: [(&str, &[u8]); 8] = [
     ("assemble", &[2, 6, 9, 27, 28]),
     ("program", &[1, 2, 3, 4, 5, 6, 7, 8, 9, 10, 11, 12, 13, 14, 15, 16, 17, 18, 19, 20, 21, 22, 23, 24, 25, 40, 41, 42]),
     ("dxil", &[40, 41, 42]),
+    ("signature", REPORTED),
+    ("element", REPORTED),
+    ("name", REPORTED),
+    ("difference", REPORTED),
+    ("sg1", &[43, 44, 45]),
+    ("sg1 element", &[26, 43, 44, 45]),
+    ("sg1 alone", &[26, 43, 44, 45]),
+    ("sg1 name", &[26, 43, 44, 45]),
 ];
 
 /// The greatest number of documents 01 and 02 is below this.
 pub const NUMBERS: usize = 61;
 
-/// What a run must have come by that no number tells: how the stages compared, and where the bitcode of DXIL data alone ended.
-#[derive(Clone, Copy)]
-enum Seen {
-    Unset,
-    Equal,
-    Different,
-    LowByte,
-    AtEnd,
-    OnePast,
-    Wraps,
+/// The numbers that have a place.
+pub const PLACED: [u8; 5] = [8, 9, 22, 23, 45];
+
+/// Declares what a run must have come by, and the words for it.
+macro_rules! seen {
+    ($(#[$doc:meta])* $($name:ident: $what:literal,)*) => {
+        $(#[$doc])*
+        #[derive(Clone, Copy)]
+        pub enum Seen {
+            $($name,)*
+        }
+
+        pub const SEEN: &[&str] = &[$($what,)*];
+    };
 }
 
-pub const SEEN: [&str; 7] = [
-    "stages unset",
-    "stages equal",
-    "stages different",
-    "stages equal in the low byte alone",
-    "bitcode to the end of the data",
-    "bitcode to one byte past the data",
-    "bitcode that 32 bits would take back inside the data",
-];
+seen! {
+    /// What no number tells: how the stages compared and where the bitcode of DXIL data alone ended; of signature data, why 26 was given,
+    /// where elements and names stood, and how names compared with PSV0's.
+    Unset: "stages unset",
+    Equal: "stages equal",
+    Different: "stages different",
+    LowByte: "stages equal in the low byte alone",
+    AtEnd: "bitcode to the end of the data",
+    OnePast: "bitcode to one byte past the data",
+    Wraps: "bitcode that 32 bits would take back inside the data",
+    AbsentPart: "26 for an absent signature part",
+    NoSuchPart: "26 for a part number above 2",
+    PastCount: "26 for an element past the count, in a container",
+    PastCountData: "26 for an element past the count, of data",
+    PastCountAlone: "26 for an element past the count, by itself, where the whole gives 44",
+    UnsetName: "26 for an unset name, in a container",
+    UnsetNameData: "26 for an unset name, of data",
+    ElementsInHeader: "elements that start in the header, accepted",
+    ElementsAtEnd: "elements to the end of the data, not 44",
+    ElementsOnePast: "elements to one byte past the data, 44",
+    NoneAtEnd: "no elements, at the end of the data, accepted",
+    NonePast: "no elements, one byte past the data, 44",
+    ProductPast: "32 x count of 2^32 or more, 44",
+    ProductWraps: "32 x count of 2^32 or more that 32 bits would take back inside the data, 44",
+    SumWraps: "an offset from which 32 bits would take the elements back inside the data, 44",
+    BadFirst: "45 at element 0 of several",
+    BadMiddle: "45 at a middle element",
+    BadLast: "45 at the last element of several",
+    BadAtLength: "a name at the length of the data, 45",
+    BadAfterZero: "a name right after the last zero, 45",
+    AloneBeside45: "an element by itself, accepted where another's name is bad",
+    AloneBeside44: "an element by itself, accepted where another is outside the data",
+    Alone44: "an element by itself, whose own bytes are outside the data, 44",
+    Alone45: "an element by itself, whose own name is bad, 45",
+    EmptyName: "an empty name",
+    NameInHeader: "a name in the header",
+    NameInElement: "a name in an element",
+    NameAtLast: "a name at the last byte",
+    SharedName: "a name of two elements",
+    NoDifference: "no difference, with names that were compared",
+    FirstDifference: "a difference at element 0",
+    LaterDifference: "a difference at a later element",
+    MissingBeside: "a difference by a missing PSV0 element, at edition read 1 or more",
+    MissingAtZero: "a difference at edition read 0",
+    EqualInput: "equal names compared, ISG1",
+    EqualOutput: "equal names compared, OSG1",
+    EqualPatch: "equal names compared, PSG1",
+    EqualEmpty: "empty names on both sides",
+    EmptyBeside: "a name beside an empty one of PSV0",
+    BesideEmpty: "an empty name beside one of PSV0",
+    PrefixOfPsv0: "a name that PSV0's begins with and goes on",
+    PrefixByPsv0: "a name that begins with PSV0's and goes on",
+    SameLength: "a name of the same length as PSV0's that differs",
+}
 
 /// Where index references stood, beside an index table of N numbers, that a reading or a writer answered for.
 #[derive(Clone, Copy)]
@@ -161,12 +230,12 @@ impl Hits {
     pub fn note(&mut self, call: Call, verdict: raw::Verdict) {
         let number = verdict.number;
         self.counts[call as usize][number] += 1;
-        if [8, 9, 22, 23].contains(&number) {
+        if PLACED.contains(&(number as u8)) {
             self.places[call as usize][number].insert(verdict.place);
         }
     }
 
-    fn saw(&mut self, what: Seen) {
+    pub fn saw(&mut self, what: Seen) {
         self.seen[what as usize] += 1;
     }
 }
@@ -194,7 +263,7 @@ fn parts_of(answer: &Result<Vec<reference::Part>, Refusal>) -> raw::Parts {
 }
 
 /// Where a view lies in the bytes.
-fn start_in(bytes: &[u8], view: &[u8]) -> usize {
+pub fn start_in(bytes: &[u8], view: &[u8]) -> usize {
     view.as_ptr() as usize - bytes.as_ptr() as usize
 }
 
@@ -398,7 +467,7 @@ pub const ENTRY_NAME: u32 = 3;
 pub const MASK: u32 = 4;
 
 /// The numbers to ask for in a list of `count`: all of a short one, some of a long one, and some past the end.
-fn numbers(random: &mut Random, count: usize) -> Vec<usize> {
+pub fn numbers(random: &mut Random, count: usize) -> Vec<usize> {
     let mut numbers: Vec<usize> = (0..count.min(6)).collect();
     if count > 6 {
         numbers.push(count - 1);
@@ -452,6 +521,7 @@ pub fn reading(random: &mut Random, reader: &Reader, bytes: &[u8], edition: usiz
             same!(bytes, got, found_of(bytes, answer), "part {edition} {name:?}");
         }
         program(bytes, edition, hits)?;
+        signatures::reports(random, bytes, edition, &expected, hits)?;
     }
     same!(bytes, (reader.info)(bytes, edition), info_of(&expected), "{name} info {edition}");
     same!(bytes, (reader.lengths)(bytes, edition), lengths_of(&expected), "{name} lengths {edition}");
@@ -563,7 +633,7 @@ fn refused(random: &mut Random, reader: &Reader, bytes: &[u8], edition: usize, r
     span(bytes, got, Err(refusal), format_args!("{name} refused section {edition} {section}"))
 }
 
-fn refusal_of(refusal: qollqamir::Refusal) -> Refusal {
+pub fn refusal_of(refusal: qollqamir::Refusal) -> Refusal {
     Refusal { number: refusal.number, place: refusal.place }
 }
 
@@ -605,7 +675,7 @@ fn wrapped(reader: &Reader, bytes: &[u8], edition: usize, opening: &Opening) -> 
     let expected = reference::program_report(bytes, edition);
     let expected = expected.map(|r| (header_of(&r.program), r.program.bitcode, r.psv0_stage, stages_of(r.stages).1));
     same!(bytes, report, expected, "safe program {edition}");
-    Ok(())
+    signatures::wrapped(bytes, edition, &safe)
 }
 
 /// A writer's call on both sides: the same verdict and length, and the same whole buffer.

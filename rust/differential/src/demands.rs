@@ -67,6 +67,47 @@ pub fn programs(bytes: &[u8]) -> Check {
     Ok(())
 }
 
+/// A report on a signature part with the data's bytes in the place of where they lie, and the first difference.
+fn signature(bytes: &[u8], edition: usize, part: u32) -> (raw::Verdict, usize, &[u8], raw::Difference) {
+    let report = raw::signature(bytes, edition, part);
+    let data = &bytes[report.start..report.start + report.len];
+    (report.verdict, report.count, data, raw::signature_difference(bytes, edition, part))
+}
+
+/// Where both readers open the bytes, both report the same of a signature part, and the same difference where both read edition 1 or more.
+/// Where the older doesn't open them, the newer's reports give its refusal. An element by itself is what the report shows.
+pub fn signatures(bytes: &[u8]) -> Check {
+    let openings = [0, 1, 2, 3].map(|edition| raw::open(bytes, edition));
+    for part in 0..3 {
+        let reports = [0, 1, 2, 3].map(|edition| signature(bytes, edition, part));
+        for newer in 1..4 {
+            let older = newer - 1;
+            let (old, new) = (&reports[older], &reports[newer]);
+            if openings[older].verdict.number != 0 {
+                let refused = openings[older].verdict;
+                same!(bytes, (new.0, new.3.verdict), (refused, refused), "signatures of editions {older} and {newer}, refused by opening");
+            }
+            if openings[newer].verdict.number != 0 {
+                continue;
+            }
+            same!(bytes, (new.0, new.1, new.2), (old.0, old.1, old.2), "signatures {part} of editions {older} and {newer}");
+            if openings[older].edition_read > 0 {
+                same!(bytes, new.3, old.3, "differences {part} of editions {older} and {newer}");
+            }
+        }
+        let (_, count, data, _) = reports[0];
+        let start = raw::signature(bytes, 0, part).start;
+        for i in 0..count.min(LONG) {
+            let mut alone = raw::sg1_element_alone(data, i);
+            if alone.named != 0 {
+                alone.name_start += start;
+            }
+            same!(bytes, alone, raw::signature_element(bytes, 0, part, i), "element {i} of part {part} by itself");
+        }
+    }
+    Ok(())
+}
+
 /// Makes a widening of pieces that reader `k` accepts, and looks whether the same is shown. Answers whether there was one to make.
 pub fn widening(random: &mut Random, pieces: &Pieces, parts: &Parts, bytes: &[u8], k: usize) -> Result<bool, Mismatch> {
     if raw::open(bytes, k).verdict.number != 0 || pieces.runtime.len() < SIZES[k] {
@@ -106,6 +147,9 @@ pub fn widening(random: &mut Random, pieces: &Pieces, parts: &Parts, bytes: &[u8
     let (narrow, wide) = (raw::program(bytes, k), raw::program(&widened, k));
     same!(widened, reported(&widened, &wide), reported(bytes, &narrow), "program of a widening at {k}");
     same!(widened, (wide.psv0_stage, wide.stages), (narrow.psv0_stage, narrow.stages), "stages of a widening at {k}");
+    for part in 0..3 {
+        same!(widened, signature(&widened, k, part), signature(bytes, k, part), "signature {part} of a widening at {k}");
+    }
     Ok(true)
 }
 

@@ -8,12 +8,13 @@ mod compare;
 mod demands;
 mod make;
 mod random;
+mod signatures;
 
 use std::panic::{catch_unwind, AssertUnwindSafe};
 use std::process::ExitCode;
 use std::time::Instant;
 
-use compare::{Call, Check, Hits, Mismatch, CALLS, CONTAINER, EDGES, NUMBERS, PSV0, SEEN};
+use compare::{Call, Check, Hits, Mismatch, CALLS, CONTAINER, EDGES, NUMBERS, PLACED, PSV0, SEEN};
 use make::{Pieces, SIZES};
 use random::Random;
 
@@ -103,26 +104,29 @@ fn report(seed: u64, case: &str, mismatch: Mismatch) -> ExitCode {
 /// Prints how often each number was given, and answers which of those that a call can give were not.
 fn summary(done: &Done) -> Vec<String> {
     let mut missed = Vec::new();
-    print!("number  ");
-    for (name, _) in CALLS {
-        print!("{name:>12}");
-    }
-    println!();
-    for number in 0..NUMBERS {
-        if number != 0 && !CALLS.iter().any(|(_, can)| can.contains(&(number as u8))) {
-            continue;
-        }
-        print!("{:>6}  ", if number == 0 { "ok".to_string() } else { number.to_string() });
-        for (call, (name, can)) in CALLS.iter().enumerate() {
-            let count = done.hits.counts[call][number];
-            print!("{count:>12}");
-            if count == 0 && (number == 0 || can.contains(&(number as u8))) {
-                missed.push(format!("{number} by {name}"));
-            }
+    // Eight calls to a line.
+    for (calls, counts) in CALLS.chunks(8).zip(done.hits.counts.chunks(8)) {
+        print!("number  ");
+        for (name, _) in calls {
+            print!("{name:>12}");
         }
         println!();
+        for number in 0..NUMBERS {
+            if number != 0 && !calls.iter().any(|(_, can)| can.contains(&(number as u8))) {
+                continue;
+            }
+            print!("{:>6}  ", if number == 0 { "ok".to_string() } else { number.to_string() });
+            for ((name, can), counts) in calls.iter().zip(counts) {
+                let count = counts[number];
+                print!("{count:>12}");
+                if count == 0 && (number == 0 || can.contains(&(number as u8))) {
+                    missed.push(format!("{number} by {name}"));
+                }
+            }
+            println!();
+        }
     }
-    for number in [8, 9, 22, 23] {
+    for number in PLACED {
         print!("places of {number}:");
         for (call, (name, can)) in CALLS.iter().enumerate() {
             if can.contains(&number) {
@@ -178,7 +182,7 @@ fn vectors() -> Vec<Vec<u8>> {
 /// One container or PSV0 data, or both, looked at from every side.
 fn case(seed: u64, number: u64, vectors: &[Vec<u8>], done: &mut Done) -> Check {
     let random = &mut Random::new(seed, number);
-    match random.below(102) {
+    match random.below(104) {
         0..=3 => {
             let len = random.below(160);
             let mut bytes = random.bytes(len);
@@ -190,6 +194,7 @@ fn case(seed: u64, number: u64, vectors: &[Vec<u8>], done: &mut Done) -> Check {
             }
             container_case(random, &bytes, done)?;
             compare::dxil(&bytes, &mut done.hits)?;
+            signatures::data(random, &bytes, &mut done.hits)?;
             psv0_case(random, &bytes, done)
         }
         4..=7 if !vectors.is_empty() => {
@@ -261,7 +266,8 @@ fn case(seed: u64, number: u64, vectors: &[Vec<u8>], done: &mut Done) -> Check {
         }
         90..=95 => write_case(random, done),
         96..=99 => assemble_case(random, done),
-        _ => dxil_case(random, done),
+        100 | 101 => dxil_case(random, done),
+        _ => signature_case(random, done),
     }
 }
 
@@ -319,9 +325,15 @@ fn container_case(random: &mut Random, bytes: &[u8], done: &mut Done) -> Check {
     if random.one_in(3) {
         demands::editions(&CONTAINER, bytes)?;
         demands::programs(bytes)?;
+        demands::signatures(bytes)?;
     }
     if let Ok((_, data)) = reference::table_part(bytes, *b"DXIL") {
         compare::dxil(data, &mut done.hits)?;
+    }
+    for part in reference::SignaturePart::ALL {
+        if let Ok((_, data)) = reference::table_part(bytes, part.name()) {
+            signatures::data(random, data, &mut done.hits)?;
+        }
     }
     Ok(())
 }
@@ -338,6 +350,27 @@ fn dxil_case(random: &mut Random, done: &mut Done) -> Check {
             make::resize(random, &mut data);
         }
         compare::dxil(&data, &mut done.hits)?;
+    }
+    Ok(())
+}
+
+/// Signature data alone: as made, with a flaw, damaged, cut or lengthened.
+fn signature_case(random: &mut Random, done: &mut Done) -> Check {
+    for _ in 0..4 {
+        let count = random.below(6);
+        let beside: Vec<Vec<u8>> = (0..count).map(|_| make::word(random)).collect();
+        let (data, fields) = make::signature(random, &beside);
+        signatures::data(random, &data, &mut done.hits)?;
+        let mut flawed = data.clone();
+        make::signature_flaw(random, &mut flawed);
+        signatures::data(random, &flawed, &mut done.hits)?;
+        let mut damaged = data;
+        if random.one_in(2) {
+            make::damage(random, &mut damaged, &fields);
+        } else {
+            make::resize(random, &mut damaged);
+        }
+        signatures::data(random, &damaged, &mut done.hits)?;
     }
     Ok(())
 }
@@ -452,7 +485,9 @@ fn longest(hits: &mut Hits) -> Check {
     let random = &mut Random::new(1, 1);
     let psv0 = Pieces::valid_of(random, 52).bytes().0;
     let mut program = b"\x65\0\x05\0\x07\0\0\0DXIL\x07\x01\0\0\x10\0\0\0\x04\0\0\0code".to_vec();
-    let parts = vec![(*b"DXIL", program.clone()), (*b"PSV0", psv0.clone())];
+    let names = [*b"ISG1", *b"OSG1", *b"PSG1"].map(|name| (name, make::signature(random, &[b"POSITION".to_vec()]).0));
+    let mut parts = vec![(*b"DXIL", program.clone()), (*b"PSV0", psv0.clone())];
+    parts.extend(names);
     let mut bytes = make::container(random, &parts).0;
     for len in [LONGEST, LONGEST + 1] {
         bytes.resize(len, 0);
@@ -474,6 +509,16 @@ fn longest(hits: &mut Hits) -> Check {
     for size in [LONGEST - 15, LONGEST - 14] {
         make::put4(&mut program, 20, size as u32);
         compare::dxil(&program, hits)?;
+    }
+    // Signature data too: elements to their end, of which the last has a name at the last byte, then at the length; one byte past it.
+    let count = LONGEST / 32 + 1;
+    let mut elements = vec![0; 8 + 32 * count];
+    let len = elements.len();
+    make::put4(&mut elements, 0, count as u32);
+    for (first, name) in [(8, len - 1), (8, len), (9, 0)] {
+        make::put4(&mut elements, 4, first);
+        make::put4(&mut elements, len - 28, name as u32);
+        signatures::data(random, &elements, hits)?;
     }
     // 52 bytes beside the strings of edition 1; 44 beside the data of one part.
     let mut runtime = [0; 36];

@@ -1,4 +1,6 @@
-//! Containers, PSV0 and DXIL data, made at random: right ones, ones with a flaw in one place, and damaged bytes.
+//! Containers, PSV0, DXIL and signature data, made at random: right ones, ones with a flaw in one place, and damaged bytes.
+
+use reference::SignaturePart;
 
 use crate::random::Random;
 
@@ -334,6 +336,147 @@ pub fn dxil(random: &mut Random, stage: u8) -> Vec<u8> {
     data
 }
 
+/// A few letters, or none.
+pub fn word(random: &mut Random) -> Vec<u8> {
+    let len = random.below(5);
+    random.bytes(len).iter().map(|byte| b'A' + byte % 26).collect()
+}
+
+/// A name that is nearly the one given.
+fn other(random: &mut Random, name: &[u8]) -> Vec<u8> {
+    let mut other = name.to_vec();
+    match random.below(5) {
+        0 => {
+            other.pop();
+        }
+        1 => other.push(b'Z'),
+        2 => other.clear(),
+        3 if !name.is_empty() => other[random.below(name.len())] ^= 1,
+        _ => other = word(random),
+    }
+    other
+}
+
+/// Right signature data beside the names in a list of PSV0, and where the ruling numbers stand. Mostly each element has the name beside it,
+/// or none, but for one.
+pub fn signature(random: &mut Random, beside: &[Vec<u8>]) -> (Vec<u8>, Vec<usize>) {
+    let count = match random.below(8) {
+        0 => random.below(6),
+        1 => beside.len() + 1 + random.below(3),
+        2 => random.below(beside.len() + 1),
+        _ => beside.len(),
+    };
+    let odd = random.below(2 * count + 1);
+    let names: Vec<Option<Vec<u8>>> = (0..count)
+        .map(|i| match beside.get(i) {
+            _ if random.one_in(6) => None,
+            Some(name) if i != odd => Some(name.clone()),
+            Some(name) => Some(other(random, name)),
+            None if random.one_in(2) => None,
+            None => Some(word(random)),
+        })
+        .collect();
+
+    // The strings stand after the elements or before them; the same one may serve several.
+    let gap = if random.one_in(4) { random.below(9) } else { 0 };
+    let start = 8 + gap;
+    let behind = !random.one_in(3);
+    let at = if behind { start + 32 * count } else { start };
+    let mut strings: Vec<u8> = Vec::new();
+    let mut offsets = Vec::new();
+    for name in names {
+        offsets.push(name.map_or(0, |mut name| {
+            name.push(0);
+            let known = strings.windows(name.len()).position(|string| string == name);
+            let place = known.filter(|_| !random.one_in(3)).unwrap_or(strings.len());
+            if place == strings.len() {
+                strings.extend_from_slice(&name);
+            }
+            at + place
+        }));
+    }
+    if random.one_in(3) {
+        let more = random.below(5);
+        strings.extend(random.bytes(more).iter().map(|byte| byte | 1));
+    }
+    let first = if behind { start } else { start + strings.len() };
+    let mut data = vec![0; 8];
+    data.extend_from_slice(&random.bytes(gap));
+    let elements = random.bytes(32 * count);
+    data.extend_from_slice(if behind { &elements } else { &strings });
+    data.extend_from_slice(if behind { &strings } else { &elements });
+    put4(&mut data, 0, count as u32);
+    put4(&mut data, 4, first as u32);
+    let mut fields = vec![0, 4];
+    for (i, offset) in offsets.into_iter().enumerate() {
+        fields.push(first + 32 * i + 4);
+        put4(&mut data, first + 32 * i + 4, offset as u32);
+    }
+    // A name may stand anywhere up to the last zero.
+    let last = last_zero(&data);
+    if count > 0 && random.one_in(4) {
+        let places = [1 + random.below(7), first + random.below(32 * count), last, last];
+        let place = random.pick(&places);
+        let at = first + 32 * random.below(count) + 4;
+        put4(&mut data, at, place.min(last) as u32);
+    }
+    (data, fields)
+}
+
+fn last_zero(data: &[u8]) -> usize {
+    data.iter().rposition(|byte| *byte == 0).unwrap_or(0)
+}
+
+/// Breaks a rule of right signature data, or comes near it.
+pub fn signature_flaw(random: &mut Random, data: &mut Vec<u8>) {
+    let len = data.len() as u32;
+    let (count, first) = (get4(data, 0), get4(data, 4));
+    match random.below(12) {
+        0 => data.truncate(random.below(9)),
+        // The elements end with the data or one byte past them.
+        1 => put4(data, 4, len - 32 * count + random.below(2) as u32),
+        2 => {
+            put4(data, 0, 0);
+            put4(data, 4, len + random.below(2) as u32);
+        }
+        3 => put4(data, 0, random.pick(&[count + 1, (len - first) / 32 + 1, (1 << 27) - 1, u32::MAX])),
+        // 32 x count at 2^32 or past it, with the offset as it was or one from which 32 bits would come to the end of the data.
+        4 | 5 => {
+            let count = random.pick(&[1 << 27, (1 << 27) + 1, (1 << 27) + count, (1 << 28) + count, (31 << 27) + count, u32::MAX]);
+            put4(data, 0, count);
+            if random.one_in(2) {
+                put4(data, 4, len.wrapping_sub(count.wrapping_mul(32)).wrapping_sub(random.below(3) as u32));
+            }
+        }
+        // An offset near 2^32.
+        6 => put4(data, 4, (32 * count).wrapping_neg().wrapping_add(random.below(len as usize + 2) as u32)),
+        7 => put4(data, 4, random.pick(&[u32::MAX, u32::MAX - 31, 1 << 31, len, len + 1, 0, 4])),
+        8 => {
+            let from = random.below(data.len() - 7) + 8;
+            data[from..].iter_mut().for_each(|byte| *byte |= 1);
+        }
+        _ if count > 0 => {
+            let after = last_zero(data) as u32 + 1;
+            for _ in 0..1 + random.below(2) {
+                let any = random.below(count as usize) as u32;
+                let i = random.pick(&[0, count / 2, count - 1, any]);
+                let name = random.pick(&[after, after, len, len, len + 1, u32::MAX, 1 << 31]);
+                put4(data, (first + 32 * i) as usize + 4, name);
+            }
+        }
+        _ => (),
+    }
+}
+
+/// The names in each of PSV0's lists.
+fn listed(psv0: &[u8]) -> [Vec<Vec<u8>>; 3] {
+    let opening = reference::open_psv0(psv0, 1);
+    SignaturePart::ALL.map(|part| match &opening {
+        Ok(opening) => part.list(&opening.runtime).filter_map(|i| opening.string(i).ok()).map(<[u8]>::to_vec).collect(),
+        Err(_) => Vec::new(),
+    })
+}
+
 /// The parts of a container, in order.
 pub type Parts = Vec<([u8; 4], Vec<u8>)>;
 
@@ -353,6 +496,22 @@ pub fn parts(random: &mut Random, psv0: &[u8]) -> Parts {
         }
         let len = random.below(9);
         parts.push((name, random.bytes(len)));
+    }
+    // All of these, DXIL and PSV0 are at most 96.
+    if others <= 91 && random.one_in(3) {
+        for (part, beside) in SignaturePart::ALL.into_iter().zip(listed(psv0)) {
+            if random.one_in(2) || parts.iter().any(|other| other.0 == part.name()) {
+                continue;
+            }
+            let (mut data, fields) = signature(random, &beside);
+            match random.below(12) {
+                0..=2 => signature_flaw(random, &mut data),
+                3 => damage(random, &mut data, &fields),
+                _ => (),
+            }
+            let at = random.below(parts.len() + 1);
+            parts.insert(at, (part.name(), data));
+        }
     }
     // PSV0's stage stands at byte 24 of the runtime record, from edition 1 on.
     let stage = psv0.get(28).copied().unwrap_or(0);

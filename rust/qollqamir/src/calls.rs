@@ -86,7 +86,7 @@ structs! {
         flags: Field,
     }
 
-    /// A signature element's record.
+    /// The record of a signature element in PSV0.
     Element {
         verdict: Verdict,
         name_offset: Field,
@@ -157,6 +157,45 @@ structs! {
         psv0_stage: Field,
         stages: usize,
     }
+
+    /// The data of a part ISG1, OSG1 or PSG1: the number of elements.
+    SignatureData {
+        verdict: Verdict,
+        count: usize,
+    }
+
+    /// The report on a container's signature part: the number of elements, and the part's data as a stretch of the container.
+    SignatureReport {
+        verdict: Verdict,
+        count: usize,
+        start: usize,
+        len: usize,
+    }
+
+    /// An element of a signature part, as it stands. `named` is 1 where it has a name, 0 where it has none; the name is a stretch of the
+    /// bytes that were handed in.
+    SignatureRecord {
+        verdict: Verdict,
+        stream: u32,
+        name_offset: u32,
+        index: u32,
+        system_value: u32,
+        component_type: u32,
+        register_number: u32,
+        mask: u32,
+        exclusive_mask: u32,
+        precision: u32,
+        named: u32,
+        name_start: usize,
+        name_len: usize,
+    }
+
+    /// The first element that differs: 1 and its number, 0 and 0 where there is none.
+    Difference {
+        verdict: Verdict,
+        found: usize,
+        number: usize,
+    }
 }
 
 mod archive {
@@ -184,6 +223,14 @@ mod archive {
         pub fn qollqamir_psv0_section(data: *const u8, len: usize, edition: usize, section: u32) -> Span;
         pub fn qollqamir_dxil_program(data: *const u8, len: usize) -> ProgramData;
         pub fn qollqamir_program(bytes: *const u8, len: usize, edition: usize) -> ProgramReport;
+        pub fn qollqamir_sg1_read(data: *const u8, len: usize) -> SignatureData;
+        pub fn qollqamir_sg1_element(data: *const u8, len: usize, i: usize) -> SignatureRecord;
+        pub fn qollqamir_sg1_element_alone(data: *const u8, len: usize, i: usize) -> SignatureRecord;
+        pub fn qollqamir_sg1_name(data: *const u8, len: usize, i: usize) -> Span;
+        pub fn qollqamir_signature(bytes: *const u8, len: usize, edition: usize, part: u32) -> SignatureReport;
+        pub fn qollqamir_signature_element(bytes: *const u8, len: usize, edition: usize, part: u32, i: usize) -> SignatureRecord;
+        pub fn qollqamir_signature_name(bytes: *const u8, len: usize, edition: usize, part: u32, i: usize) -> Span;
+        pub fn qollqamir_signature_difference(bytes: *const u8, len: usize, edition: usize, part: u32) -> Difference;
         pub fn qollqamir_write_psv0(
             edition: usize,
             runtime: *const u8,
@@ -268,6 +315,22 @@ readers! {
     dxil_program => qollqamir_dxil_program() -> ProgramData;
     /// The report on a container's DXIL part: 25, 1 to 24, 40 to 42.
     program => qollqamir_program(edition: usize) -> ProgramReport;
+    /// The data of a part ISG1, OSG1 or PSG1 alone: 43 to 45.
+    sg1_read => qollqamir_sg1_read() -> SignatureData;
+    /// Element `i` of such data: 43 to 45, 26.
+    sg1_element => qollqamir_sg1_element(i: usize) -> SignatureRecord;
+    /// Element `i` of such data by itself: 43, 26, 44 of its own bytes, 45 of its own name.
+    sg1_element_alone => qollqamir_sg1_element_alone(i: usize) -> SignatureRecord;
+    /// The name of element `i` of such data: 43 to 45, 26.
+    sg1_name => qollqamir_sg1_name(i: usize) -> Span;
+    /// The report on a container's signature part, 0 ISG1, 1 OSG1, 2 PSG1: 25, 1 to 24, 26, 43 to 45.
+    signature => qollqamir_signature(edition: usize, part: u32) -> SignatureReport;
+    /// Element `i` of the part, its name as a stretch of the container: those of [`signature`], then 26.
+    signature_element => qollqamir_signature_element(edition: usize, part: u32, i: usize) -> SignatureRecord;
+    /// The name of element `i` of the part, a stretch of the container: those of [`signature`], then 26.
+    signature_name => qollqamir_signature_name(edition: usize, part: u32, i: usize) -> Span;
+    /// The first named element of the part whose name is not that of the PSV0 element beside it: those of [`signature`].
+    signature_difference => qollqamir_signature_difference(edition: usize, part: u32) -> Difference;
 }
 
 /// A part by its name from the table alone: 1 to 9, 26.

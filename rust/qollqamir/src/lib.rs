@@ -1,5 +1,5 @@
-//! Safe calls to the proved reader and writer of DirectX shader containers and their PSV0 part, and to the reader of the DXIL part's
-//! header.
+//! Safe calls to the proved reader and writer of DirectX shader containers and their PSV0 part, and to the readers of the DXIL part's
+//! header and of the signature parts.
 //!
 //! Any bytes get an answer: the value, or a [`Refusal`] with a number of documents 01 and 02 and a place. Views are slices of the bytes
 //! handed in. A value that the file's edition or stage lacks is `None`.
@@ -26,6 +26,9 @@
 #![warn(missing_docs)]
 
 mod calls;
+mod signature;
+
+pub use signature::{first_difference, sg1_element_alone, signature, Elements, Signature, SignatureElement, SignaturePart};
 
 // Nothing in it can be unset, so it is shown as the call gives it.
 pub use calls::ProgramHeader;
@@ -44,7 +47,7 @@ pub const DEFAULT_EDITION: Edition = 1;
 /// A refusal: a number of documents 01 and 02, and a place (a part or an element where the number has one, otherwise 0).
 #[derive(Clone, Copy, Debug, PartialEq, Eq, Hash)]
 pub struct Refusal {
-    /// 1 to 28, or 40 to 42.
+    /// 1 to 28, or 40 to 45.
     pub number: u8,
     /// The part or element, from 0.
     pub place: usize,
@@ -107,7 +110,7 @@ pub struct Resource {
     pub flags: Option<u32>,
 }
 
-/// A signature element's record.
+/// The record of a signature element in PSV0.
 #[allow(missing_docs)]
 #[derive(Clone, Copy, Debug, PartialEq, Eq)]
 pub struct Element {
@@ -190,7 +193,7 @@ pub struct ProgramReport<'a> {
 }
 
 fn judged(verdict: raw::Verdict) -> Result<(), Refusal> {
-    match u8::try_from(verdict.number).expect("the numbers are 1 to 28 and 40 to 42") {
+    match u8::try_from(verdict.number).expect("the numbers are 1 to 28 and 40 to 45") {
         0 => Ok(()),
         number => Err(Refusal { number, place: verdict.place }),
     }
@@ -477,6 +480,16 @@ impl<'a> Container<'a> {
             _ => Stages::Unset,
         };
         Ok(ProgramReport { header, bitcode, psv0_stage: value(psv0_stage), stages })
+    }
+
+    /// The report on a signature part: 26 where it is absent, then 43 to 45, as [`signature`](fn@signature) gives them.
+    pub fn signature(&self, part: SignaturePart) -> Result<Signature<'a>, Refusal> {
+        signature(self.bytes, self.edition, part)
+    }
+
+    /// The number of the first named element of a signature part whose name is not PSV0's, as [`first_difference`] gives it.
+    pub fn first_difference(&self, part: SignaturePart) -> Result<Option<usize>, Refusal> {
+        first_difference(self.bytes, self.edition, part)
     }
 
     queries!(runtime_info, resource, element, lengths, view, section);

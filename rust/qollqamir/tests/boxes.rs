@@ -1,4 +1,5 @@
-//! The boxes M and C of document 01 through the safe calls, the program header of document 02, and the last field of every struct.
+//! The boxes M and C of document 01 through the safe calls, the program header and the signature parts of document 02, and the last field
+//! of every struct.
 
 use qollqamir::*;
 
@@ -220,4 +221,200 @@ fn a_program_header_is_refused() {
     for (offset, size) in [(16, 9), (25, 0), (u32::MAX, 25), (25, u32::MAX), (16, u32::MAX - 23), (u32::MAX, u32::MAX)] {
         refuses(&dxil(5, offset, size), 42);
     }
+}
+
+/// Signature data: elements from byte 8 on, whose bytes are numbered but for the name offsets, then strings.
+fn sg1(names: &[u32], strings: &[u8]) -> Vec<u8> {
+    let mut data = [(names.len() as u32).to_le_bytes(), 8u32.to_le_bytes()].concat();
+    data.extend((0..32 * names.len()).map(|i| 0x10 + i as u8));
+    for (i, name) in names.iter().enumerate() {
+        data[12 + 32 * i..16 + 32 * i].copy_from_slice(&name.to_le_bytes());
+    }
+    data.extend_from_slice(strings);
+    data
+}
+
+fn put4(data: &mut [u8], at: usize, number: u32) {
+    data[at..at + 4].copy_from_slice(&number.to_le_bytes());
+}
+
+/// PSV0 data of edition 3 with the names A and BC in the input list, BC in the output list, an empty one and A in the patch list.
+fn psv0_s() -> Vec<u8> {
+    let mut runtime = [0; 52];
+    runtime[24] = 13;
+    runtime[28..31].copy_from_slice(&[2, 1, 2]);
+    let mut elements = [0; 5 * 16];
+    for (i, name) in [1, 3, 3, 0, 1].into_iter().enumerate() {
+        elements[16 * i] = name;
+    }
+    let given = Sections { runtime: &runtime, strings: b"\0A\0BC\0\0\0", elements: &elements, ..Sections::default() };
+    let mut out = [0; 256];
+    let len = write_psv0(3, given, &mut out).unwrap();
+    out[..len].to_vec()
+}
+
+/// A container of a DXIL part, a PSV0 part and a signature part, whose data are its last bytes.
+fn with(psv0: &[u8], part: SignaturePart, data: &[u8]) -> Vec<u8> {
+    let names = [*b"DXIL", *b"PSV0", part.name()].concat();
+    let all = [b"code", psv0, data].concat();
+    let mut out = vec![0xee; 100 + all.len()];
+    let len = assemble(&names, &[4, psv0.len() as u32, data.len() as u32], &all, &[7; 16], &mut out).unwrap();
+    out.truncate(len);
+    out
+}
+
+#[test]
+fn a_signature_is_shown_with_its_names() {
+    let data = sg1(&[104, 0, 106], b"A\0BC\0");
+    let signature = Signature::read(&data).unwrap();
+    assert_eq!((signature.count(), signature.data()), (3, &data[..]));
+    let element = SignatureElement {
+        stream: 0x5352_5150,
+        name_offset: 106,
+        index: 0x5b5a_5958,
+        system_value: 0x5f5e_5d5c,
+        component_type: 0x6362_6160,
+        register_number: 0x6766_6564,
+        mask: 0x68,
+        exclusive_mask: 0x69,
+        precision: 0x6f6e_6d6c,
+        name: Some(b"BC"),
+    };
+    assert_eq!(signature.element(2), Ok(element));
+    assert_eq!(sg1_element_alone(&data, 2), Ok(element));
+    assert_eq!(signature.element(3), refused(26, 0));
+    assert_eq!(signature.name(0), Ok(&b"A"[..]));
+    assert_eq!(signature.name(1), refused(26, 0));
+    assert_eq!(signature.name(3), refused(26, 0));
+    // The last field of the record of the plain call.
+    assert_eq!(raw::sg1_element(&data, 2).name_len, 2);
+    assert_eq!(raw::sg1_name(&data, 2), raw::Span { verdict: raw::Verdict { number: 0, place: 0 }, start: 106, len: 2 });
+
+    let mut elements = signature.elements();
+    assert_eq!(elements.len(), 3);
+    assert_eq!(elements.clone().map(|e| e.name).collect::<Vec<_>>(), [Some(&b"A"[..]), None, Some(b"BC")]);
+    assert_eq!(elements.nth(1).map(|e| e.mask), Some(0x48));
+    assert_eq!(elements.next(), Some(element));
+    assert_eq!((elements.next(), elements.next(), elements.len()), (None, None, 0));
+    assert_eq!(signature.into_iter().count(), 3);
+
+    for part in SignaturePart::ALL {
+        let bytes = with(&psv0_s(), part, &data);
+        let start = bytes.len() - data.len();
+        for edition in 0..=3 {
+            let container = Container::open(&bytes, edition).unwrap();
+            let report = container.signature(part).unwrap();
+            assert_eq!(report, qollqamir::signature(&bytes, edition, part).unwrap());
+            assert_eq!((report, report.data().as_ptr()), (signature, bytes[start..].as_ptr()));
+            assert!(report.elements().eq(signature.elements()));
+            assert_eq!(report.name(2).unwrap().as_ptr(), bytes[start + 106..].as_ptr());
+            assert_eq!(raw::signature(&bytes, edition, part as u32).len, data.len());
+            assert_eq!(raw::signature_element(&bytes, edition, part as u32, 2).name_start, start + 106);
+            assert_eq!(raw::signature_name(&bytes, edition, part as u32, 2).start, start + 106);
+            for other in SignaturePart::ALL.into_iter().filter(|other| *other != part) {
+                assert_eq!(container.signature(other), refused(26, 0));
+                assert_eq!(container.first_difference(other), refused(26, 0));
+            }
+            assert_eq!(raw::signature(&bytes, edition, 3).verdict, raw::Verdict { number: 26, place: 0 });
+        }
+        assert_eq!(qollqamir::signature(&bytes, 4, part), refused(25, 0));
+        assert_eq!(first_difference(&bytes, 4, part), refused(25, 0));
+    }
+}
+
+#[test]
+fn a_signature_is_refused() {
+    let refuses = |data: &[u8], number, place| {
+        assert_eq!(Signature::read(data), refused(number, place));
+        for part in SignaturePart::ALL {
+            let bytes = with(&psv0_s(), part, data);
+            for edition in 0..=3 {
+                let container = Container::open(&bytes, edition).unwrap();
+                assert_eq!(container.signature(part), refused(number, place));
+                assert_eq!(container.first_difference(part), refused(number, place));
+            }
+        }
+    };
+    let good = sg1(&[0, 0, 0], b"");
+    for len in 0..8 {
+        refuses(&good[..len], 43, 0);
+        assert_eq!(sg1_element_alone(&good[..len], 0), refused(43, 0));
+    }
+    // One above the length, and sums that 32 bits would take back inside the data.
+    assert_eq!(Signature::read(&good).unwrap().count(), 3);
+    refuses(&good[..103], 44, 0);
+    for (count, offset) in [(3, 9), (4, 8), (0, 105), (1 << 27, 8), ((1 << 27) + 3, 8), (3, u32::MAX - 95), (u32::MAX, u32::MAX)] {
+        let mut data = good.clone();
+        put4(&mut data, 0, count);
+        put4(&mut data, 4, offset);
+        refuses(&data, 44, 0);
+    }
+    let mut none = good.clone();
+    put4(&mut none, 0, 0);
+    put4(&mut none, 4, 104);
+    assert_eq!(Signature::read(&none).unwrap().elements().next(), None);
+
+    // The last zero is at 105; an empty name is a name, and a name may start in the header or in an element.
+    let mut data = sg1(&[105, 1, 4], b"A\0BC");
+    let names: Vec<_> = Signature::read(&data).unwrap().into_iter().map(|e| e.name).collect();
+    assert_eq!(names, [Some(&b""[..]), Some(b""), Some(b"\x08")]);
+    for (i, name) in [(2, 106), (1, 108), (0, u32::MAX)] {
+        put4(&mut data, 12 + 32 * i, name);
+        refuses(&data, 45, i);
+        assert_eq!(sg1_element_alone(&data, i), refused(45, i));
+    }
+    // By itself an element is good whatever the others are; 26 comes first, then its own bytes.
+    put4(&mut data, 44, 104);
+    refuses(&data, 45, 0);
+    assert_eq!(sg1_element_alone(&data, 1).unwrap().name, Some(&b"A"[..]));
+    put4(&mut data, 0, 4);
+    refuses(&data, 44, 0);
+    assert_eq!(sg1_element_alone(&data, 1).unwrap().name, Some(&b"A"[..]));
+    assert_eq!(sg1_element_alone(&data, 3), refused(44, 0));
+    assert_eq!(sg1_element_alone(&data, 4), refused(26, 0));
+
+    // The refusals of opening come first: with a wrong entry name only reader 3 doesn't open the container.
+    let bytes = with(&psv0_c(52, 8), SignaturePart::Input, b"short");
+    for (edition, input, output) in [(2, 43, 26), (3, 24, 24)] {
+        assert_eq!(qollqamir::signature(&bytes, edition, SignaturePart::Input), refused(input, 0));
+        assert_eq!(qollqamir::signature(&bytes, edition, SignaturePart::Output), refused(output, 0));
+        assert_eq!(first_difference(&bytes, edition, SignaturePart::Input), refused(input, 0));
+        assert_eq!(first_difference(&bytes, edition, SignaturePart::Output), refused(output, 0));
+    }
+}
+
+#[test]
+fn a_signature_is_held_against_psv0() {
+    // The strings start at 8 + 32 for each element.
+    let (a, bc, b, bcd, empty) = (0, 2, 5, 7, 1);
+    let differs = |part, names: &[Option<u32>], first| {
+        let base = 8 + 32 * names.len() as u32;
+        let offsets: Vec<u32> = names.iter().map(|name| name.map_or(0, |place| base + place)).collect();
+        let data = sg1(&offsets, b"A\0BC\0B\0BCD\0");
+        let named = names.iter().position(Option::is_some);
+        let (s, m) = (with(&psv0_s(), part, &data), with(&psv0_m(24, 24), part, &data));
+        for edition in 0..=3 {
+            // Without lists, at edition read 0, the first name is missing there.
+            let expected = if edition == 0 { named } else { first };
+            assert_eq!(first_difference(&s, edition, part), Ok(expected), "{part:?} {names:?}");
+            assert_eq!(Container::open(&s, edition).unwrap().first_difference(part), Ok(expected));
+            assert_eq!(first_difference(&m, edition, part), Ok(named));
+        }
+    };
+    let (input, output, patch) = (SignaturePart::Input, SignaturePart::Output, SignaturePart::Patch);
+    differs(input, &[], None);
+    differs(input, &[None, None, None], None);
+    differs(input, &[Some(a), Some(bc)], None);
+    differs(input, &[None, Some(bc), None], None);
+    differs(input, &[Some(bc), Some(bc)], Some(0));
+    differs(input, &[Some(a), Some(b)], Some(1));
+    differs(input, &[Some(a), Some(bcd)], Some(1));
+    differs(input, &[None, Some(empty)], Some(1));
+    differs(input, &[Some(a), Some(bc), Some(empty)], Some(2));
+    differs(output, &[Some(bc)], None);
+    differs(output, &[Some(a)], Some(0));
+    differs(output, &[Some(bc), Some(bc)], Some(1));
+    differs(patch, &[Some(empty), Some(a)], None);
+    differs(patch, &[Some(a), Some(a)], Some(0));
+    differs(patch, &[Some(empty), Some(bc)], Some(1));
 }
