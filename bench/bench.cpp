@@ -22,6 +22,8 @@ extern "C" {
 uint8_t reference_open(const uint8_t *, size_t, size_t);
 uint8_t reference_table(const uint8_t *, size_t);
 uint8_t reference_string(const uint8_t *, size_t, size_t, size_t);
+uint8_t reference_signature(const uint8_t *, size_t, size_t, uint32_t);
+uint8_t reference_difference(const uint8_t *, size_t, size_t, uint32_t, size_t *);
 uint8_t reference_write_psv0(size_t, const uint8_t *const *, const size_t *, uint8_t *, size_t);
 uint8_t reference_assemble(const uint8_t *, const uint32_t *, size_t, const uint8_t *, size_t, const uint8_t *, uint8_t *, size_t);
 uint32_t pass_bytewise(const uint8_t *, size_t);
@@ -281,6 +283,12 @@ static void real_shaders(const std::filesystem::path &folder) {
             {"runtime info", {repeat([&] { return qollqamir_runtime_info(b.data(), b.size(), 3); }), reference_at(b, 3), llvm_create(b)}},
             {"program report, edition 3",
              {repeat([&] { return qollqamir_program(b.data(), b.size(), 3); }), reference_at(b, 3), llvm_create(b)}},
+            {"signature report, ISG1",
+             {repeat([&] { return qollqamir_signature(b.data(), b.size(), 3, QOLLQAMIR_ISG1); }),
+              repeat([&] { return reference_signature(b.data(), b.size(), 3, QOLLQAMIR_ISG1); }), nullptr}},
+            {"first difference, ISG1",
+             {repeat([&] { return qollqamir_signature_difference(b.data(), b.size(), 3, QOLLQAMIR_ISG1); }),
+              repeat([&] { return reference_difference(b.data(), b.size(), 3, QOLLQAMIR_ISG1, nullptr); }), nullptr}},
             {"string of element 0",
              {string_of(b, 0), repeat([&] { return reference_string(b.data(), b.size(), 3, 0); }), llvm_create(b)}},
             {"write PSV0", {repeat(write), repeat([&] { return reference_write_psv0(e, sections, lengths, out.data(), out.size()); }), nullptr}},
@@ -423,6 +431,89 @@ static void hostile() {
     round_ns = usual;
 }
 
+// A signature of 262,143 elements that name these places in turn, with its elements before or after 8 MB of text.
+static Bytes signature_of(const std::vector<uint32_t> &names, const Bytes &text, bool elements_first) {
+    const uint32_t count = 262143;
+    Bytes b;
+    append(b, count);
+    append(b, elements_first ? 8 : uint32_t(8 + text.size()));
+    if (!elements_first)
+        b.insert(b.end(), text.begin(), text.end());
+    size_t at = b.size();
+    b.resize(at + 32 * size_t(count), 'e');
+    for (uint32_t e = 0; e < count; e++)
+        put(b, at + 32 * e + 4, names[e % names.size()]);
+    if (elements_first)
+        b.insert(b.end(), text.begin(), text.end());
+    return b;
+}
+
+// Long signature parts: judged, and compared with PSV0's names.
+static void signatures() {
+    const uint32_t text = 8388000, after = 8 + 32 * 262143;
+    Bytes end(text, 'a'), none(text, 'a');
+    end[text - 1] = 0;
+    auto with = [](const Bytes &isg1, const Bytes &psv0) {
+        Parts p;
+        p.add("DXIL", Bytes(4, 1));
+        p.add("PSV0", psv0);
+        p.add("ISG1", isg1);
+        return p.container();
+    };
+    Bytes small = psv0_of(0, 0, 0, Bytes(4, 0), 0);
+    // 255 names in each list, all good and all the same text, as long as fits beside them.
+    Bytes same(5000000, 'a');
+    same[same.size() - 1] = 0;
+    Bytes psv0 = psv0_of(0, 765, 0, same, 1);
+    for (size_t e = 0; e < 765; e++)
+        put(psv0, psv0.size() - 765 * 16 + 16 * e, 0);
+    Bytes alike;
+    append(alike, 255);
+    append(alike, 8);
+    for (size_t e = 0; e < 255; e++) {
+        alike.resize(alike.size() + 32, 0);
+        put(alike, alike.size() - 28, 8 + 32 * 255);
+    }
+    alike.insert(alike.end(), same.begin(), same.end());
+    struct Case {
+        std::string name;
+        Bytes bytes;
+        size_t number, found;
+    };
+    std::vector<Case> cases = {
+        {"text of 8 MB, zero at its end", with(signature_of({after, after + 9, after + 4000000}, end, true), small), 0, 1},
+        {"the same text before them", with(signature_of({8, 17, 4000000}, end, false), small), 0, 1},
+        {"text of 8 MB, no zero", with(signature_of({after, after + 9}, none, true), small), 45, 0},
+        {"elements without names", with(signature_of({0}, end, true), small), 0, 0},
+        {"255 names of 5 MB, all equal", with(alike, psv0), 0, 0},
+    };
+    double usual = round_ns;
+    round_ns = 1e6;
+    printf("\nsignature parts of 16 MB, ns a call beside a plain pass over the container (target for the report: at most twice a plain pass)\n");
+    printf("%-30s %11s %11s %11s %11s %9s %9s\n", "", "report", "difference", "ref. report", "pass", "report", "diff.");
+    for (auto &c : cases) {
+        const Bytes &b = c.bytes;
+        require(b.size() <= 16777216 && qollqamir_open(b.data(), b.size(), 3).verdict.number == 0, c.name + " does not open");
+        auto report = qollqamir_signature(b.data(), b.size(), 3, QOLLQAMIR_ISG1);
+        auto difference = qollqamir_signature_difference(b.data(), b.size(), 3, QOLLQAMIR_ISG1);
+        size_t found = 0;
+        require(report.verdict.number == c.number && reference_signature(b.data(), b.size(), 3, QOLLQAMIR_ISG1) == c.number, c.name);
+        require(reference_difference(b.data(), b.size(), 3, QOLLQAMIR_ISG1, &found) == c.number && found == c.found, c.name);
+        require(difference.found == c.found, c.name);
+        auto t = measure({repeat([&] { return qollqamir_signature(b.data(), b.size(), 3, QOLLQAMIR_ISG1); }),
+                          repeat([&] { return qollqamir_signature_difference(b.data(), b.size(), 3, QOLLQAMIR_ISG1); }),
+                          repeat([&] { return reference_signature(b.data(), b.size(), 3, QOLLQAMIR_ISG1); }),
+                          repeat([&] { return pass_bytewise(b.data(), b.size()); })});
+        printf("%-30s", c.name.c_str());
+        for (size_t k = 0; k < 4; k++)
+            cell(t[k]);
+        ratio(t.ratio(0, 3));
+        ratio(t.ratio(1, 3));
+        printf("\n");
+    }
+    round_ns = usual;
+}
+
 // What handing back 1,176 bytes costs: the table of a file that the first check refuses, beside a call that hands back 40.
 static void handing_back(const std::filesystem::path &shader) {
     Bytes b = load(shader);
@@ -520,4 +611,5 @@ int main(int argc, char **argv) {
     refusals(folder / "sdl_D3D12_VertexShader_YUV.dxbc");
     handing_back(folder / "sdl_D3D12_VertexShader_YUV.dxbc");
     hostile();
+    signatures();
 }

@@ -34,6 +34,32 @@ pub unsafe extern "C" fn reference_string(bytes: *const u8, len: usize, edition:
 }
 
 /// # Safety
+/// `bytes` points to `len` bytes; `part` is below 3.
+#[no_mangle]
+pub unsafe extern "C" fn reference_signature(bytes: *const u8, len: usize, edition: usize, part: u32) -> u8 {
+    let part = reference::SignaturePart::ALL[part as usize];
+    number(reference::signature_report(from_raw_parts(bytes, len), edition, part))
+}
+
+/// # Safety
+/// `bytes` points to `len` bytes; `part` is below 3; `found`, where it isn't null, to what is 1 where an element differs.
+#[no_mangle]
+pub unsafe extern "C" fn reference_difference(
+    bytes: *const u8,
+    len: usize,
+    edition: usize,
+    part: u32,
+    found: *mut usize,
+) -> u8 {
+    let part = reference::SignaturePart::ALL[part as usize];
+    let first = reference::first_difference(from_raw_parts(bytes, len), edition, part);
+    if !found.is_null() {
+        *found = usize::from(matches!(first, Ok(Some(_))));
+    }
+    number(first)
+}
+
+/// # Safety
 /// `sections` points to 6 pointers and `lengths` to the 6 lengths of what they point to; `out` to `out_len` bytes.
 #[no_mangle]
 pub unsafe extern "C" fn reference_write_psv0(
