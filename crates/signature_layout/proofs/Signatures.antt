@@ -134,7 +134,13 @@ module _ (d : List ℕ) (o : ℕ) where
       go true q e = absurd (let z : _≡_ {A = ℕ} 0 1 = cc in omega arith)
       go false q e = (eqb-false o 0 q, cc, cc)
 
--- ---- element i by itself: n is the count, f the first element's offset
+-- ---- element i by itself: what the name of its answer r decides
+pub record ByName (d : List ℕ) (i : ℕ) (r : SignatureAnswer) : Type 0 where
+  pub unset : r .name ≡ Unset → r ≡ aloneOf d i
+  pub bad : (s n : ℕ) → r .name ≡ At s n → length d ≤ s + n → refusedElement 45 i ≡ aloneOf d i
+  pub good : (s n : ℕ) → r .name ≡ At s n → s + n < length d → r ≡ aloneOf d i
+
+-- n is the count, f the first element's offset
 module _ (d : List ℕ) (i : ℕ) where
   pub alone-43 : length d < 8 → refusedElement 43 0 ≡ aloneOf d i
   unfolding aloneOf aloneJudged check _then_
@@ -160,22 +166,19 @@ module _ (d : List ℕ) (i : ℕ) where
           name-is : r .name ≡ nameOf d (nameOffset d i)
           name-is = ap (λ (q : SignatureAnswer). q .name) er
 
-          pub alone-unset : r .name ≡ Unset → r ≡ aloneOf d i
-          alone-unset e = er ∙ alone-name (unnamed d i (unset-offset d (nameOffset d i) (sym name-is ∙ e)))
+          by-length : {s m : ℕ} {t : Bool} → r .name ≡ At s m → ltb (s + m) (length d) ≡ t → nameJudged d i ≡ check t 45 i
+          by-length e q =
+              let (f, es, em) = set-offset d (nameOffset d i) (sym name-is ∙ e) in
+              named d i f (good-length d (nameOffset d i) ∙ (rw (← em, es) q))
 
-          module _ {s m : ℕ} (e : r .name ≡ At s m) where
-            by-length : {t : Bool} → ltb (s + m) (length d) ≡ t → nameJudged d i ≡ check t 45 i
-            by-length q =
-                let (f, es, em) = set-offset d (nameOffset d i) (sym name-is ∙ e) in
-                named d i f (good-length d (nameOffset d i) ∙ (rw (← em, es) q))
-
-            pub alone-45 : length d ≤ s + m → refusedElement 45 i ≡ aloneOf d i
-            unfolding check
-            alone-45 q = alone-name (by-length (le-ltb _ _ q))
-
-            pub alone-shown : s + m < length d → r ≡ aloneOf d i
-            unfolding check
-            alone-shown q = er ∙ alone-name (by-length (lt-ltb _ _ q))
+          pub alone-by-name : ByName d i r
+          unfolding check
+          alone-by-name =
+              record {
+                unset = λ e. er ∙ alone-name (unnamed d i (unset-offset d (nameOffset d i) (sym name-is ∙ e)));
+                bad = λ s m e q. alone-name (by-length e (le-ltb _ _ q));
+                good = λ s m e q. er ∙ alone-name (by-length e (lt-ltb _ _ q));
+              }
 
 -- ---- "answers as the whole reader does wherever that accepts"
 module _ (d : List ℕ) (i : ℕ) (a : signatureJudged d ≡ Accepted) where

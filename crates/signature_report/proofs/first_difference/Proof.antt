@@ -1,50 +1,36 @@
+use Prim.Native.Nat.{_+_, _≤_, _<_}
 use native.Mathlib.Omega.{arith}
+use lib.ListN.{length}
 use Rattle.signature_report_layout.proofs.Steps.{no-difference, stretch-inside, stretch-judged, counts-short, list-short, list-inside, difference-is}
 use borrow.Author.Needs.{needs}
 use Rattle.signature_report.proofs.first_difference.Statement.{statement}
 use Rattle.signature_report.proofs.first_difference.Tie as tie
 
-list-before-requires : tie.Need-list-before-requires
-list-before-requires c κs =
-    let i = c .before .before .before .before in
+-- the three counts, and the part's stretch
+short : (n : tie.After-count-in3) → n .before .before .count-in .result + n .before .count-in2 .result + n .count-in3 .result < 4294967296
+short n =
+    let i = n .before .before .before .before in
     let t = i .before in
-    omega (
-      arith,
-      counts-short _ _ _ (t .before .before .report .ensures) (t .enum-told .given .1) (i .runtime-info .ensures)
-          (c .before .before .count-in .ensures) (c .before .count-in2 .ensures) (c .count-in3 .ensures),
-    )
+    counts-short _ _ _ (t .before .before .report .ensures) (t .enum-told .given .1) (i .runtime-info .ensures) (n .before .before .count-in .ensures)
+    (n .before .count-in2 .ensures) (n .count-in3 .ensures)
+
+inside : (t : tie.After-enum-told) → t .before .before .report .result .start + t .before .before .report .result .len ≤ length (t .before .before .before .before .args .b .now)
+inside t = stretch-inside _ _ _ (t .before .before .report .ensures) (t .enum-told .given .1)
+
+list-before-requires : tie.Need-list-before-requires
+list-before-requires c κs = omega (arith, short c)
 
 add-apart : tie.Need-add-apart
-add-apart c =
-    let n = c .before .before .before .before in
-    let i = n .before .before .before .before in
-    let t = i .before in
-    omega (
-      arith,
-      counts-short _ _ _ (t .before .before .report .ensures) (t .enum-told .given .1) (i .runtime-info .ensures)
-          (n .before .before .count-in .ensures) (n .before .count-in2 .ensures) (n .count-in3 .ensures),
-    )
+add-apart c = omega (arith, short (c .before .before .before .before))
 
 add-apart-2 : tie.Need-add-apart-2
-add-apart-2 c =
-    let n = c .before .before .before .before in
-    let i = n .before .before .before .before in
-    let t = i .before in
-    omega (
-      arith,
-      counts-short _ _ _ (t .before .before .report .ensures) (t .enum-told .given .1) (i .runtime-info .ensures)
-          (n .before .before .count-in .ensures) (n .before .count-in2 .ensures) (n .count-in3 .ensures),
-    )
+add-apart-2 c = omega (arith, short (c .before .before .before .before))
 
 add-end : tie.Need-add-end
-add-end c =
-    let t = c .before .before .before .before .before .before .before .before .before .before in
-    omega (arith, stretch-inside _ _ _ (t .before .before .report .ensures) (t .enum-told .given .1))
+add-end c = omega (arith, inside (c .before .before .before .before .before .before .before .before .before .before))
 
 part-search-end : tie.Need-part-search-end
-part-search-end c =
-    let t = c .before .before .before .before .before .before .before .before .before .before in
-    stretch-inside _ _ _ (t .before .before .report .ensures) (t .enum-told .given .1)
+part-search-end c = inside (c .before .before .before .before .before .before .before .before .before .before)
 
 search-requires : tie.Need-search-requires
 search-requires c κs =
