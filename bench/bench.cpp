@@ -323,6 +323,62 @@ static void real_shaders(const std::filesystem::path &folder) {
     }
 }
 
+// Every call on a container that hands back no table, by its name.
+static std::vector<Row> calls_on(const Bytes &b, size_t e) {
+    static const uint8_t *name = reinterpret_cast<const uint8_t *>("PSV0");
+    const uint8_t *d = b.data();
+    size_t n = b.size();
+    return {
+        {"open", {repeat([=] { return qollqamir_open(d, n, e); })}},
+        {"part", {repeat([=] { return qollqamir_part(d, n, e, name); })}},
+        {"runtime info", {repeat([=] { return qollqamir_runtime_info(d, n, e); })}},
+        {"resource", {repeat([=] { return qollqamir_resource(d, n, e, 0); })}},
+        {"element", {repeat([=] { return qollqamir_element(d, n, e, 0); })}},
+        {"lengths", {repeat([=] { return qollqamir_lengths(d, n, e); })}},
+        {"view", {repeat([=] { return qollqamir_view(d, n, e, QOLLQAMIR_ELEMENT_STRING, 0); })}},
+        {"section", {repeat([=] { return qollqamir_section(d, n, e, 2); })}},
+        {"program", {repeat([=] { return qollqamir_program(d, n, e); })}},
+        {"signature", {repeat([=] { return qollqamir_signature(d, n, e, QOLLQAMIR_ISG1); })}},
+        {"signature element", {repeat([=] { return qollqamir_signature_element(d, n, e, QOLLQAMIR_ISG1, 0); })}},
+        {"signature name", {repeat([=] { return qollqamir_signature_name(d, n, e, QOLLQAMIR_ISG1, 0); })}},
+        {"signature difference", {repeat([=] { return qollqamir_signature_difference(d, n, e, QOLLQAMIR_ISG1); })}},
+        // These name no edition.
+        {"open, default edition", {e > 3 ? nullptr : repeat([=] { return qollqamir_open_default(d, n); })}},
+        {"part of the table", {e > 3 ? nullptr : repeat([=] { return qollqamir_table_part(d, n, name); })}},
+        {"the table", {e > 3 ? nullptr : repeat([=] { return qollqamir_table(d, n); })}},
+        {"reference, open", {reference_at(b, e)}},
+    };
+}
+
+// Every call on PSV0 data alone.
+static std::vector<Row> calls_on_psv0(const Bytes &b, size_t e) {
+    const uint8_t *d = b.data();
+    size_t n = b.size();
+    return {
+        {"PSV0, open", {repeat([=] { return qollqamir_psv0_open(d, n, e); })}},
+        {"PSV0, runtime info", {repeat([=] { return qollqamir_psv0_runtime_info(d, n, e); })}},
+        {"PSV0, resource", {repeat([=] { return qollqamir_psv0_resource(d, n, e, 0); })}},
+        {"PSV0, element", {repeat([=] { return qollqamir_psv0_element(d, n, e, 0); })}},
+        {"PSV0, lengths", {repeat([=] { return qollqamir_psv0_lengths(d, n, e); })}},
+        {"PSV0, view", {repeat([=] { return qollqamir_psv0_view(d, n, e, QOLLQAMIR_ELEMENT_STRING, 0); })}},
+        {"PSV0, section", {repeat([=] { return qollqamir_psv0_section(d, n, e, 2); })}},
+    };
+}
+
+// Prints the calls' times on each file, a column each.
+static void refusal_table(const std::vector<std::string> &columns, const std::vector<std::vector<Row>> &files) {
+    printf("%-30s", "");
+    for (auto &name : columns)
+        printf(" %11s", name.c_str());
+    printf("\n");
+    for (size_t r = 0; r < files[0].size(); r++) {
+        printf("%-30s", files[0][r].name.c_str());
+        for (auto &rows : files)
+            cell(measure(rows[r].calls)[0]);
+        printf("\n");
+    }
+}
+
 static void refusals(const std::filesystem::path &shader) {
     Bytes good = load(shader);
     struct Case {
@@ -337,20 +393,21 @@ static void refusals(const std::filesystem::path &shader) {
     cases[2].name = "size field", cases[2].bytes[24] ^= 1, cases[2].number = 5;
     cases[3].name = "97 parts", put(cases[3].bytes, 28, 97), cases[3].number = 6;
     cases[4].name = "edition 4", cases[4].edition = 4, cases[4].number = 25;
-    printf("\nearly refusals, ns a call (target: at most 20)\n");
-    printf("%-30s %11s %11s %11s %11s\n", "", "open", "info", "table", "ref. open");
+    std::vector<std::string> names;
+    std::vector<std::vector<Row>> files;
     for (auto &c : cases) {
-        const Bytes &b = c.bytes;
-        require(qollqamir_open(b.data(), b.size(), c.edition).verdict.number == c.number, c.name);
-        require(reference_open(b.data(), b.size(), c.edition) == c.number, c.name);
-        Call table = repeat([&] { return qollqamir_table(b.data(), b.size()); });
-        auto t = measure({open_at(b, c.edition), repeat([&] { return qollqamir_runtime_info(b.data(), b.size(), c.edition); }),
-                          c.edition == 3 ? table : nullptr, reference_at(b, c.edition)});
-        printf("%-30s", c.name);
-        for (size_t k = 0; k < 4; k++)
-            cell(t[k]);
-        printf("\n");
+        require(qollqamir_open(c.bytes.data(), c.bytes.size(), c.edition).verdict.number == c.number, c.name);
+        require(reference_open(c.bytes.data(), c.bytes.size(), c.edition) == c.number, c.name);
+        names.push_back(c.name);
+        files.push_back(calls_on(c.bytes, c.edition));
     }
+    printf("\nearly refusals, ns a call (target: at most 20 through every call that hands back no table)\n");
+    refusal_table(names, files);
+    auto part = qollqamir_table_part(good.data(), good.size(), reinterpret_cast<const uint8_t *>("PSV0"));
+    Bytes psv0(good.begin() + part.offset + 8, good.begin() + part.offset + 8 + part.size), odd = psv0;
+    odd[0] ^= 1;
+    require(qollqamir_psv0_open(odd.data(), odd.size(), 3).verdict.number == 12, "an odd S is not refused");
+    refusal_table({"S odd", "edition 4"}, {calls_on_psv0(odd, 3), calls_on_psv0(psv0, 4)});
 }
 
 static Bytes many_parts(size_t data) {
@@ -530,21 +587,31 @@ static void handing_back(const std::filesystem::path &shader) {
 extern "C" {
 qollqamir_opening before_qollqamir_open(const uint8_t *, size_t, size_t);
 qollqamir_opening before_qollqamir_psv0_open(const uint8_t *, size_t, size_t);
+qollqamir_parts before_qollqamir_table(const uint8_t *, size_t);
+qollqamir_found before_qollqamir_table_part(const uint8_t *, size_t, const uint8_t *);
+qollqamir_found before_qollqamir_part(const uint8_t *, size_t, size_t, const uint8_t *);
+qollqamir_info before_qollqamir_runtime_info(const uint8_t *, size_t, size_t);
+qollqamir_element_record before_qollqamir_element(const uint8_t *, size_t, size_t, size_t);
+qollqamir_program_report before_qollqamir_program(const uint8_t *, size_t, size_t);
+qollqamir_signature_report before_qollqamir_signature(const uint8_t *, size_t, size_t, uint32_t);
+qollqamir_written before_qollqamir_assemble(const uint8_t *, size_t, const uint32_t *, size_t, const uint8_t *, size_t, const uint8_t *, size_t,
+                                            uint8_t *, size_t);
 qollqamir_span before_qollqamir_view(const uint8_t *, size_t, size_t, uint32_t, size_t);
 qollqamir_written before_qollqamir_write_psv0(size_t, const uint8_t *, size_t, const uint8_t *, size_t, const uint8_t *, size_t, const uint8_t *,
                                               size_t, const uint8_t *, size_t, const uint8_t *, size_t, uint8_t *, size_t);
 }
 
-// Openings and the PSV0 writer now and before, in turns on the same bytes; of the real shaders the medians over them, and the greatest ratio.
+// Openings, lookups, refusals and writers now and before, in turns on the same bytes; of the real shaders the medians over them, and the greatest
+// ratio.
 static void beside_before(const std::filesystem::path &folder) {
     struct Pair {
-        const char *name;
+        std::string name;
         std::vector<double> now, before, ratio;
     };
     std::vector<Pair> pairs;
-    auto add = [&](const char *name, const Call &now, const Call &before) {
+    auto add = [&](const std::string &name, const Call &now, const Call &before) {
         auto t = measure({now, before});
-        auto it = std::find_if(pairs.begin(), pairs.end(), [&](const Pair &p) { return strcmp(p.name, name) == 0; });
+        auto it = std::find_if(pairs.begin(), pairs.end(), [&](const Pair &p) { return p.name == name; });
         if (it == pairs.end())
             it = pairs.insert(it, Pair{name, {}, {}, {}});
         it->now.push_back(t[0]);
@@ -562,35 +629,78 @@ static void beside_before(const std::filesystem::path &folder) {
         add(array, repeat([&] { return qollqamir_view(b.data(), b.size(), 3, QOLLQAMIR_ELEMENT_ARRAY, 0); }),
             repeat([&] { return before_qollqamir_view(b.data(), b.size(), 3, QOLLQAMIR_ELEMENT_ARRAY, 0); }));
     };
+    const uint8_t *named = reinterpret_cast<const uint8_t *>("RTS0");
+    auto lookups = [&](const std::string &files, const Bytes &b) {
+        const uint8_t *d = b.data();
+        size_t n = b.size();
+        add(files + ", the table", repeat([=] { return qollqamir_table(d, n); }), repeat([=] { return before_qollqamir_table(d, n); }));
+        add(files + ", part of the table", repeat([=] { return qollqamir_table_part(d, n, named); }),
+            repeat([=] { return before_qollqamir_table_part(d, n, named); }));
+        add(files + ", part", repeat([=] { return qollqamir_part(d, n, 3, named); }),
+            repeat([=] { return before_qollqamir_part(d, n, 3, named); }));
+        add(files + ", runtime info", repeat([=] { return qollqamir_runtime_info(d, n, 3); }),
+            repeat([=] { return before_qollqamir_runtime_info(d, n, 3); }));
+        add(files + ", element 0", repeat([=] { return qollqamir_element(d, n, 3, 0); }),
+            repeat([=] { return before_qollqamir_element(d, n, 3, 0); }));
+        add(files + ", program", repeat([=] { return qollqamir_program(d, n, 3); }),
+            repeat([=] { return before_qollqamir_program(d, n, 3); }));
+        add(files + ", signature", repeat([=] { return qollqamir_signature(d, n, 3, QOLLQAMIR_ISG1); }),
+            repeat([=] { return before_qollqamir_signature(d, n, 3, QOLLQAMIR_ISG1); }));
+    };
+    // The PSV0 of a container, written again.
+    auto writes = [&](const char *name, const Bytes &b) {
+        size_t e = qollqamir_open(b.data(), b.size(), 3).edition_read;
+        const uint8_t *s[6];
+        size_t n[6];
+        for (uint32_t k = 0; k < 6; k++) {
+            auto span = qollqamir_section(b.data(), b.size(), 3, k);
+            require(span.verdict.number == 0, name);
+            s[k] = b.data() + span.start;
+            n[k] = span.len;
+        }
+        Bytes out(b.size());
+        auto write = [&](auto call) {
+            return [&, call] {
+                return call(e, s[0], n[0], s[1], n[1], s[2], n[2], s[3], n[3], s[4], n[4], s[5], n[5], out.data(), out.size());
+            };
+        };
+        require(write(qollqamir_write_psv0)().verdict.number == 0 && write(before_qollqamir_write_psv0)().verdict.number == 0, name);
+        add(name, repeat(write(qollqamir_write_psv0)), repeat(write(before_qollqamir_write_psv0)));
+    };
     for (auto &entry : std::filesystem::directory_iterator(folder)) {
         Bytes b = load(entry.path());
-        if (qollqamir_open(b.data(), b.size(), 3).verdict.number == 0)
-            all("real shaders, open", "real shaders, PSV0 alone", "real shaders, array of element 0", b);
+        if (qollqamir_open(b.data(), b.size(), 3).verdict.number != 0)
+            continue;
+        all("real shaders, open", "real shaders, PSV0 alone", "real shaders, array of element 0", b);
+        lookups("real shaders", b);
+        writes("real shaders, write PSV0", b);
+        b[24] ^= 1;
+        add("size field, open", open_at(b, 3), repeat([&] { return before_qollqamir_open(b.data(), b.size(), 3); }));
+        lookups("size field", b);
+    }
+    for (size_t data : {0, 64}) {
+        Bytes b = many_parts(data);
+        std::string files = data ? "96 parts of 64 bytes" : "96 parts, empty";
+        add(files + ", open", open_at(b, 3), repeat([&] { return before_qollqamir_open(b.data(), b.size(), 3); }));
+        lookups(files, b);
+        Parts p = parts_of(b);
+        Bytes whole(b.size());
+        require(p.into(whole).verdict.number == 0 && whole == b, "96 parts are not assembled again");
+        add(files + ", assemble", repeat([&] { return p.into(whole); }), repeat([&] {
+                return before_qollqamir_assemble(p.names.data(), p.names.size(), p.sizes.data(), p.sizes.size(), p.data.data(), p.data.size(),
+                                                 p.digest.data(), 16, whole.data(), whole.size());
+            }));
     }
     all("765 elements, open", "765 elements, PSV0 alone", "765 elements, array of element 0", with_psv0(psv0_of(0, 765, 0, Bytes(16, 0), 1)));
     // As much as may be opened and written: strings whose only zero is near the start.
     Bytes start(16700000, 'a');
     start[15] = 0;
-    Bytes b = with_psv0(psv0_of(0, 765, 0, start, 1)), out(b.size());
-    const uint8_t *s[6];
-    size_t n[6];
-    for (uint32_t k = 0; k < 6; k++) {
-        auto span = qollqamir_section(b.data(), b.size(), 3, k);
-        require(span.verdict.number == 0, "a long PSV0 has no sections");
-        s[k] = b.data() + span.start;
-        n[k] = span.len;
-    }
-    auto write = [&](auto call) {
-        return [&, call] {
-            return call(3, s[0], n[0], s[1], n[1], s[2], n[2], s[3], n[3], s[4], n[4], s[5], n[5], out.data(), out.size());
-        };
-    };
-    require(write(qollqamir_write_psv0)().verdict.number == 0 && write(before_qollqamir_write_psv0)().verdict.number == 0, "a long PSV0 is not written");
+    Bytes b = with_psv0(psv0_of(0, 765, 0, start, 1));
     add("16 MB strings, open", open_at(b, 3), repeat([&] { return before_qollqamir_open(b.data(), b.size(), 3); }));
-    add("16 MB strings, write PSV0", repeat(write(qollqamir_write_psv0)), repeat(write(before_qollqamir_write_psv0)));
+    writes("16 MB strings, write PSV0", b);
     printf("%-34s %11s %11s %9s %9s\n", "", "now", "before", "/before", "greatest");
     for (auto &p : pairs) {
-        printf("%-34s", p.name);
+        printf("%-34s", p.name.c_str());
         cell(median(p.now));
         cell(median(p.before));
         ratio(median(p.ratio));

@@ -1,4 +1,4 @@
--- The cases of the search for the PSV0 part, at the table and the lookups that the code holds.
+-- The cases of the search for the PSV0 part, at the parts that the code holds.
 -- Assumes nothing.
 use Prim.Native.Nat.{ℕ, _+_, _≤_, _<_}
 use mathlib.Core.Path.{_≡_, refl, sym, _∙_, ap}
@@ -11,15 +11,16 @@ use borrow.Author.Tests.{le-leb, lt-leb, lt-ltb, le-ltb}
 use Rattle.wire.specs.Verdict.{_then_, check}
 use Rattle.wire.specs.declared.Verdict.{Verdict}
 use Rattle.wire.specs.declared.Verdict.the-variants.{Accepted, Refused}
-use Rattle.part_table_layout.specs.Lookup.{find, partAt, partIn, partOf}
-use Rattle.part_table_layout.specs.Table.{countOf, tableJudged, tableOf}
+use Rattle.part_table_layout.specs.Lookup.{find, partAt, partOf}
+use Rattle.part_table_layout.specs.Table.{countOf, tableJudged}
+use Rattle.part_table_layout.specs.Three.{threeOf}
 use Rattle.part_table_layout.specs.declared.Found.{Found}
 use Rattle.part_table_layout.specs.declared.Found.the-variants.{At, Nothing}
 use Rattle.part_table_layout.specs.declared.Part.{Part}
-use Rattle.part_table_layout.specs.declared.Table.{Table}
-use Rattle.part_table_layout.proofs.Accepted.{table-accepted, part-inside, accepted-told}
-use Rattle.part_table_layout.proofs.Lookups.{find-told, part-in-file}
-use Rattle.part_table_layout.proofs.Readings.{verdict-shown}
+use Rattle.part_table_layout.specs.declared.ThreeParts.{ThreeParts}
+use Rattle.part_table_layout.proofs.Accepted.{part-inside, accepted-told}
+use Rattle.part_table_layout.proofs.Lookups.{find-told}
+use Rattle.part_table_layout.proofs.Threes.{three-verdict, three-first, three-second, three-count}
 use Rattle.container_layout.specs.Container.{dxil, psv0, isThere, startFound, sizeFound, beforePsv}
 use Rattle.container.specs.Opened.{psvPartOf}
 use Rattle.container.specs.declared.PsvPart.{PsvPart}
@@ -34,9 +35,9 @@ pub no-edition : (k : ℕ) (b : List ℕ) {r : PsvPart} → 3 < k
     → r ≡ record { verdict = Refused 25 0; parts = 0; start = 0; end = 0 } → r ≡ psvPartOf k b
 no-edition k b h e = e ∙ refused-part k b (unfold beforePsv check _then_ in simp (lt-leb _ _ h))
 
-module _ (k : ℕ) (b : List ℕ) {t : Table} (ht : t ≡ tableOf b) (hk : k ≤ 3) where
+module _ (k : ℕ) (b : List ℕ) (y : ℕ) {t : ThreeParts} (ht : t ≡ threeOf b dxil psv0 y) (hk : k ≤ 3) where
   judged : {v : Verdict} → t .verdict ≡ v → tableJudged b ≡ v
-  judged h = sym (verdict-shown b ht) ∙ h
+  judged h = sym (three-verdict b dxil psv0 y ht) ∙ h
 
   pub no-table : {n p : ℕ} {r : PsvPart} → t .verdict ≡ Refused n p
       → r ≡ record { verdict = t .verdict; parts = 0; start = 0; end = 0 } → r ≡ psvPartOf k b
@@ -48,73 +49,80 @@ module _ (k : ℕ) (b : List ℕ) {t : Table} (ht : t ≡ tableOf b) (hk : k ≤
     ok : tableJudged b ≡ Accepted
     ok = judged h
 
-    looked-up : (x : ℕ) {p : Part} → p ≡ partIn t x → p ≡ partAt b (find b x)
-    looked-up x e = let q = ok in e ∙ rw ht (part-in-file b x ∙ unfold partOf in rw q)
+    looked-up : (x : ℕ) {p : Part} → p ≡ partOf b x → p ≡ partAt b (find b x)
+    unfolding partOf
+    looked-up x e = let q = ok in e ∙ rw q
 
     size-is : (f : Found) → partAt b f .size ≡ sizeFound b f
     size-is (At i) = refl
     size-is Nothing = refl
 
-    program-size : {p : Part} → p ≡ partIn t dxil → p .size ≡ sizeFound b (find b dxil)
-    program-size e = ap (λ (p : Part). p .size) (looked-up dxil e) ∙ size-is (find b dxil)
+    program-size : t .first .size ≡ sizeFound b (find b dxil)
+    program-size = ap (λ (p : Part). p .size) (looked-up dxil (three-first b dxil psv0 y ht)) ∙ size-is (find b dxil)
 
-    module _ {program : Part} (hp : program ≡ partIn t dxil) where
-      pub no-program : {r : PsvPart} → program .size ≡ 0
-          → r ≡ record { verdict = Refused 10 0; parts = 0; start = 0; end = 0 } → r ≡ psvPartOf k b
-      unfolding beforePsv check _then_
-      no-program z e =
-          let q = ok in
-          let s = sym (program-size hp) ∙ z in
-          let l = le-ltb 0 (sizeFound b (find b dxil)) (omega arith) in
-          e ∙ refused-part k b (simp (le-leb _ _ hk, q, l))
+    pub no-program : {r : PsvPart} → t .first .size ≡ 0
+        → r ≡ record { verdict = Refused 10 0; parts = 0; start = 0; end = 0 } → r ≡ psvPartOf k b
+    unfolding beforePsv check _then_
+    no-program z e =
+        let q = ok in
+        let s = sym program-size ∙ z in
+        let l = le-ltb 0 (sizeFound b (find b dxil)) (omega arith) in
+        e ∙ refused-part k b (simp (le-leb _ _ hk, q, l))
 
-      module _ (some : program .size ≡ 0 → ⊥) {p : Part} (hv : p ≡ partIn t psv0) where
-        there : ltb 0 (sizeFound b (find b dxil)) ≡ true
-        there = lt-ltb 0 (sizeFound b (find b dxil)) (omega (arith, program-size hp, positive (program .size) some))
-          where
-            positive : (n : ℕ) → (n ≡ 0 → ⊥) → 0 < n
-            positive n f = native.Mathlib.Nat.pos-of-ne-zero f
+    module _ (some : t .first .size ≡ 0 → ⊥) where
+      there : ltb 0 (sizeFound b (find b dxil)) ≡ true
+      there = lt-ltb 0 (sizeFound b (find b dxil)) (omega (arith, program-size, positive (t .first .size) some))
+        where
+          positive : (n : ℕ) → (n ≡ 0 → ⊥) → 0 < n
+          positive n f = native.Mathlib.Nat.pos-of-ne-zero f
 
-        found : (f : Found) → p ≡ partAt b f → p .verdict ≡ Accepted → isThere f ≡ true
-        found (At i) e a = refl
-        found Nothing e a = absurd (let z : _≡_ {A = ℕ} 0 1 = cc in omega arith)
+      abbrev p : Part
+      p = t .second
 
-        missing : (f : Found) {n q : ℕ} → p ≡ partAt b f → p .verdict ≡ Refused n q → isThere f ≡ false
-        missing (At i) e a = absurd (let z : _≡_ {A = ℕ} 0 1 = cc in omega arith)
-        missing Nothing e a = refl
+      hv : p ≡ partAt b (find b psv0)
+      hv = looked-up psv0 (three-second b dxil psv0 y ht)
 
-        pub no-validation : {n q : ℕ} {r : PsvPart} → p .verdict ≡ Refused n q
-            → r ≡ record { verdict = Refused 11 0; parts = 0; start = 0; end = 0 } → r ≡ psvPartOf k b
-        no-validation a e =
+      found : (f : Found) → p ≡ partAt b f → p .verdict ≡ Accepted → isThere f ≡ true
+      found (At i) e a = refl
+      found Nothing e a = absurd (let z : _≡_ {A = ℕ} 0 1 = cc in omega arith)
+
+      missing : (f : Found) {n q : ℕ} → p ≡ partAt b f → p .verdict ≡ Refused n q → isThere f ≡ false
+      missing (At i) e a = absurd (let z : _≡_ {A = ℕ} 0 1 = cc in omega arith)
+      missing Nothing e a = refl
+
+      pub no-validation : {n q : ℕ} {r : PsvPart} → t .second .verdict ≡ Refused n q
+          → r ≡ record { verdict = Refused 11 0; parts = 0; start = 0; end = 0 } → r ≡ psvPartOf k b
+      no-validation a e =
+          let o = ok in
+          let x = there in
+          let m = missing (find b psv0) hv a in
+          e ∙ refused-part k b (unfold beforePsv check _then_ in simp (le-leb _ _ hk, o, x, m))
+
+      module _ (a : t .second .verdict ≡ Accepted) where
+        start-is : (f : Found) → p ≡ partAt b f → p .offset + 8 ≡ startFound b f
+        start-is (At i) e = ap (λ (q : Part). q .offset + 8) e
+        start-is Nothing e = absurd (let z : _≡_ {A = ℕ} 0 1 = cc in omega arith)
+
+        inside : (f : Found) → find b psv0 ≡ f → p ≡ partAt b f → p .offset + 8 + p .size ≤ length b
+        inside (At i) g e = rw e (part-inside b ok i (find-told b psv0 i g .listed))
+        inside Nothing g e = absurd (let z : _≡_ {A = ℕ} 0 1 = cc in omega arith)
+
+        -- the sums fit
+        pub short : t .second .offset + 8 + t .second .size ≤ 16777216
+        short =
+            let l = inside (find b psv0) refl hv in
+            let s = accepted-told b ok .header .short in
+            omega arith
+
+        pub found-psv0 : record { verdict = Accepted; parts = t .count; start = t .second .offset + 8; end = t .second .offset + 8 + t .second .size }
+            ≡ psvPartOf k b
+        unfolding psvPartOf
+        found-psv0 =
             let o = ok in
             let x = there in
-            let m = missing (find b psv0) (looked-up psv0 hv) a in
-            e ∙ refused-part k b (unfold beforePsv check _then_ in simp (le-leb _ _ hk, o, x, m))
-
-        module _ (a : p .verdict ≡ Accepted) where
-          start-is : (f : Found) → p ≡ partAt b f → p .offset + 8 ≡ startFound b f
-          start-is (At i) e = ap (λ (q : Part). q .offset + 8) e
-          start-is Nothing e = absurd (let z : _≡_ {A = ℕ} 0 1 = cc in omega arith)
-
-          inside : (f : Found) → find b psv0 ≡ f → p ≡ partAt b f → p .offset + 8 + p .size ≤ length b
-          inside (At i) g e = rw e (part-inside b ok i (find-told b psv0 i g .listed))
-          inside Nothing g e = absurd (let z : _≡_ {A = ℕ} 0 1 = cc in omega arith)
-
-          -- the sums fit
-          pub short : p .offset + 8 + p .size ≤ 16777216
-          short =
-              let l = inside (find b psv0) refl (looked-up psv0 hv) in
-              let s = accepted-told b ok .header .short in
-              omega arith
-
-          pub found-psv0 : record { verdict = Accepted; parts = t .count; start = p .offset + 8; end = p .offset + 8 + p .size } ≡ psvPartOf k b
-          unfolding psvPartOf
-          found-psv0 =
-              let o = ok in
-              let x = there in
-              let m = found (find b psv0) (looked-up psv0 hv) a in
-              let j : beforePsv k b ≡ Accepted = unfold beforePsv check _then_ in simp (le-leb _ _ hk, o, x, m) in
-              let n : t .count ≡ countOf b = ap (λ (u : Table). u .count) (ht ∙ table-accepted b ok) in
-              let s = start-is (find b psv0) (looked-up psv0 hv) in
-              let z : p .size ≡ sizeFound b (find b psv0) = ap (λ (q : Part). q .size) (looked-up psv0 hv) ∙ size-is (find b psv0) in
-              rw (j, n, s, z)
+            let m = found (find b psv0) hv a in
+            let j : beforePsv k b ≡ Accepted = unfold beforePsv check _then_ in simp (le-leb _ _ hk, o, x, m) in
+            let n : t .count ≡ countOf b = three-count b dxil psv0 y ht ok in
+            let s = start-is (find b psv0) hv in
+            let z : p .size ≡ sizeFound b (find b psv0) = ap (λ (q : Part). q .size) hv ∙ size-is (find b psv0) in
+            rw (j, n, s, z)

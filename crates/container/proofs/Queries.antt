@@ -13,13 +13,13 @@ use Rattle.wire.specs.Number.{u32At}
 use Rattle.wire.specs.Verdict.{_then_, check}
 use Rattle.wire.specs.declared.Verdict.{Verdict}
 use Rattle.wire.specs.declared.Verdict.the-variants.{Accepted, Refused}
-use Rattle.part_table_layout.specs.Lookup.{find, refusedPart, partIn, partAt, partIf, partOf}
-use Rattle.part_table_layout.specs.Table.{countOf, dataAt, tableOf}
-use Rattle.part_table_layout.specs.declared.Table.{Table}
+use Rattle.part_table_layout.specs.Lookup.{find, refusedPart, partAt, partIf, partOf}
+use Rattle.part_table_layout.specs.Table.{countOf, dataAt}
+use Rattle.part_table_layout.specs.declared.Part.{Part}
 use Rattle.part_table_layout.specs.declared.Found.{Found}
 use Rattle.part_table_layout.specs.declared.Found.the-variants.{At, Nothing}
 use Rattle.part_table_layout.proofs.Accepted.{accepted-told, part-inside}
-use Rattle.part_table_layout.proofs.Lookups.{find-told, part-in-file}
+use Rattle.part_table_layout.proofs.Lookups.{find-told}
 use Rattle.psv0_layout.specs.Answers.{numberBeside, bytesBeside, bytesOf, openingOf, infoAnswerOf, resourceAnswerOf, elementAnswerOf, lengthsAnswerOf, refusedInfo, refusedResource, refusedElement, refusedLengths, refusedSpan, SpanShows}
 use Rattle.psv0_layout.specs.declared.Opening.{Opening}
 use Rattle.psv0_layout.specs.declared.Span.{Span}
@@ -188,15 +188,15 @@ part-beside Accepted b x = refl
 part-beside (Refused n q) b x = refl
 
 pub part-is : (k : ℕ) (b : List ℕ) {p : PsvPart} → p ≡ psvPartOf k b → p .verdict ≡ Accepted
-    → {d : List ℕ} → d ≡ psvOf b → {v : Verdict} → v ≡ opened k d → {t : Table} → t ≡ tableOf b
-    → (x : ℕ) → partBeside v (partIn t x) ≡ containerPart k b x
+    → {d : List ℕ} → d ≡ psvOf b → {v : Verdict} → v ≡ opened k d → (x : ℕ) {q : Part} → q ≡ partOf b x
+    → partBeside v q ≡ containerPart k b x
 unfolding containerPart
-part-is k b hp a {d} e {v} hv {t} ht x =
+part-is k b hp a {d} e {v} hv x hq =
     let f = before-is k b hp a in
     let z = before-told k b f .table in
     let o : v ≡ containerJudged k b = hv ∙ rw e (sym (opens-alone k b f)) in
     let q : partOf b x ≡ partAt b (find b x) = unfold partOf in rw z in
-    rw (o, ht, part-in-file b x, q) (part-beside (containerJudged k b) b x)
+    rw (o, hq, q) (part-beside (containerJudged k b) b x)
 
 pub no-edition-part : (k : ℕ) (b : List ℕ) (x : ℕ) → 3 < k → refusedPart (Refused 25 0) ≡ containerPart k b x
 unfolding containerPart containerJudged beforePsv check _then_

@@ -1,8 +1,7 @@
 // The opening of a whole container and the queries on its bytes, above the part table and the PSV0 reader through their promises.
 // A query gives what opening gives, 25, 1 to 9, 10, 11 and 12 to 24, then 26. Beside a refusal nothing of the file is shown.
-use part_table_layout::Found;
 use part_table_layout::Part;
-use part_table_layout::Table;
+use part_table_layout::ThreeParts;
 use psv0_layout::ElementAnswer;
 use psv0_layout::InfoAnswer;
 use psv0_layout::LengthsAnswer;
@@ -16,13 +15,12 @@ ghost use mathlib.Core.Path.{_≡_};
 ghost use Prim.Native.Nat.{_+_, _≤_};
 ghost use lib.ListN.{length, take, drop};
 ghost use Rattle.wire.specs.Number.{u32At};
-ghost use Rattle.part_table_layout.specs.Lookup.{partIn};
-ghost use Rattle.part_table_layout.specs.Table.{tableOf};
+ghost use Rattle.part_table_layout.specs.Three.{threeOf};
 ghost use Rattle.psv0_layout.specs.Answers.{infoAnswerOf, resourceAnswerOf, elementAnswerOf, lengthsAnswerOf, questionOf, sectionOf, bytesOf, bytesBeside, SpanShows};
 ghost use Rattle.psv0_layout.specs.Handed.{handed};
 ghost use Rattle.psv0_layout.specs.Layout.{editionRead, defaultEdition};
 ghost use Rattle.psv0_layout.specs.Shown.{queried};
-ghost use Rattle.container_layout.specs.Container.{psvOf, containerJudged, containerAnswered, containerPart, partDataOf};
+ghost use Rattle.container_layout.specs.Container.{dxil, psv0, psvOf, containerJudged, containerAnswered, containerPart, partDataOf};
 ghost use Rattle.container.specs.Opened.{psvPartOf, refusedOpening, openingIf, movedSpan, partBeside, containerOpeningOf};
 
 // The verdict of an opening, the number of parts, the file's edition and the edition read. A refusal has zeros.
@@ -52,40 +50,38 @@ fn no_psv0(v: Verdict) -> PsvPart
     }
 }
 
-// The PSV0 part of a container whose table was read: refusals 1 to 9, 10 and 11.
-fn psv0_in(b: &[u8], t: Table, edition: usize) -> PsvPart
-    requires { ⌜ (t ≡ tableOf (now b)) × (edition ≤ 3) ⌝ }
+// The PSV0 part, given the parts DXIL and PSV0 (and one more, with the name x) of a container: refusals 1 to 9, 10 and 11.
+fn psv0_in(b: &[u8], t: ThreeParts, x: u32, edition: usize) -> PsvPart
+    requires { ⌜ (t ≡ threeOf (now b) dxil psv0 x) × (edition ≤ 3) ⌝ }
     ensures { λ r. ⌜ r ≡ psvPartOf edition (now (b .entry)) ⌝ }
 {
     let v = t.verdict;
-    match v {
-        Verdict::Refused(_, _) => no_psv0(v),
-        Verdict::Accepted => {
-            let n = t.count;
-            let program = part_table::find_name(&t.names, n, wire::u32_at(b"DXIL", 0));
-            match program {
-                Found::Nothing => no_psv0(Verdict::Refused(10, 0)),
-                Found::At(i) => {
-                    if t.sizes[i] == 0 {
-                        return no_psv0(Verdict::Refused(10, 0));
-                    }
-                    let found = part_table::find_name(&t.names, n, wire::u32_at(b"PSV0", 0));
-                    match found {
-                        Found::Nothing => no_psv0(Verdict::Refused(11, 0)),
-                        Found::At(k) => {
-                            let start = t.offsets[k] as usize + 8;
-                            PsvPart {
-                                verdict: Verdict::Accepted,
-                                parts: n,
-                                start: start,
-                                end: start + t.sizes[k] as usize,
-                            }
-                        }
-                    }
-                }
-            }
-        }
+    if let Verdict::Refused(_, _) = v {
+        return no_psv0(v);
     }
+    let program = t.first;
+    if program.size == 0 {
+        return no_psv0(Verdict::Refused(10, 0));
+    }
+    let psv = t.second;
+    let found = psv.verdict;
+    if let Verdict::Refused(_, _) = found {
+        return no_psv0(Verdict::Refused(11, 0));
+    }
+    let start = psv.offset + 8;
+    PsvPart {
+        verdict: Verdict::Accepted,
+        parts: t.count,
+        start: start,
+        end: start + psv.size,
+    }
+}
+
+// The parts DXIL and PSV0, and the part with the name x: no table is built.
+fn parts_for(b: &[u8], x: u32) -> ThreeParts
+    ensures { λ r. ⌜ r ≡ threeOf (now (b .entry)) dxil psv0 x ⌝ }
+{
+    part_table::three_parts(b, wire::u32_at(b"DXIL", 0), wire::u32_at(b"PSV0", 0), x)
 }
 
 // The PSV0 part: refusals 25, 1 to 9, 10 and 11.
@@ -95,7 +91,8 @@ fn find_psv0(b: &[u8], edition: usize) -> PsvPart
     if 3 < edition {
         return no_psv0(Verdict::Refused(25, 0));
     }
-    psv0_in(b, part_table::read(b), edition)
+    let x = wire::u32_at(b"PSV0", 0);
+    psv0_in(b, parts_for(b, x), x, edition)
 }
 
 fn refused_opening(n: u8, place: usize) -> ContainerOpening
@@ -133,10 +130,10 @@ pub fn open(b: &[u8], edition: usize) -> ContainerOpening
     let start = p.start;
     let end = p.end;
     let v = p.verdict;
-    match v {
-        Verdict::Refused(n, place) => refused_opening(n, place),
-        Verdict::Accepted => opening_of(psv0::open(&b[start..end], edition), p.parts),
+    if let Verdict::Refused(n, place) = v {
+        return refused_opening(n, place);
     }
+    opening_of(psv0::open(&b[start..end], edition), p.parts)
 }
 
 // Opens a container at the edition that is read where none is named.
@@ -146,7 +143,7 @@ pub fn open_default(b: &[u8]) -> ContainerOpening
     open(b, 1)
 }
 
-// The fields of the runtime record.
+// The fields of the runtime record. The accepted answer has a name of its own, so that a refusal is written in place and not copied.
 pub fn runtime_info(b: &[u8], edition: usize) -> InfoAnswer
     ensures { λ r. ⌜ r ≡ infoAnswerOf (containerJudged edition (now (b .entry))) (containerAnswered edition (now (b .entry))) ⌝ }
 {
@@ -154,10 +151,11 @@ pub fn runtime_info(b: &[u8], edition: usize) -> InfoAnswer
     let start = p.start;
     let end = p.end;
     let v = p.verdict;
-    match v {
-        Verdict::Refused(n, place) => psv0::refused_info(n, place),
-        Verdict::Accepted => psv0::runtime_info(&b[start..end], edition),
+    if let Verdict::Refused(n, place) = v {
+        return psv0::refused_info(n, place);
     }
+    let shown = psv0::runtime_info(&b[start..end], edition);
+    shown
 }
 
 // Resource record i.
@@ -168,10 +166,10 @@ pub fn resource(b: &[u8], edition: usize, i: usize) -> ResourceAnswer
     let start = p.start;
     let end = p.end;
     let v = p.verdict;
-    match v {
-        Verdict::Refused(n, place) => psv0::refused_resource(n, place),
-        Verdict::Accepted => psv0::resource(&b[start..end], edition, i),
+    if let Verdict::Refused(n, place) = v {
+        return psv0::refused_resource(n, place);
     }
+    psv0::resource(&b[start..end], edition, i)
 }
 
 // Element record i, numbered over all lists.
@@ -182,10 +180,10 @@ pub fn element(b: &[u8], edition: usize, i: usize) -> ElementAnswer
     let start = p.start;
     let end = p.end;
     let v = p.verdict;
-    match v {
-        Verdict::Refused(n, place) => psv0::refused_element(n, place),
-        Verdict::Accepted => psv0::element(&b[start..end], edition, i),
+    if let Verdict::Refused(n, place) = v {
+        return psv0::refused_element(n, place);
     }
+    psv0::element(&b[start..end], edition, i)
 }
 
 // The lists' lengths.
@@ -196,10 +194,10 @@ pub fn lengths(b: &[u8], edition: usize) -> LengthsAnswer
     let start = p.start;
     let end = p.end;
     let v = p.verdict;
-    match v {
-        Verdict::Refused(n, place) => psv0::refused_lengths(n, place),
-        Verdict::Accepted => psv0::lengths(&b[start..end], edition),
+    if let Verdict::Refused(n, place) = v {
+        return psv0::refused_lengths(n, place);
     }
+    psv0::lengths(&b[start..end], edition)
 }
 
 // A stretch of the PSV0 data, which start at a place, as one of the container.
@@ -226,10 +224,10 @@ pub fn view_span(b: &[u8], edition: usize, view: View) -> Span
     let start = p.start;
     let end = p.end;
     let v = p.verdict;
-    match v {
-        Verdict::Refused(n, place) => psv0::refused_span(n, place),
-        Verdict::Accepted => moved(psv0::view_span(&b[start..end], edition, view), start),
+    if let Verdict::Refused(n, place) = v {
+        return psv0::refused_span(n, place);
     }
+    moved(psv0::view_span(&b[start..end], edition, view), start)
 }
 
 // The bytes of a section for writing again, as a stretch of the container.
@@ -240,10 +238,10 @@ pub fn section_span(b: &[u8], edition: usize, section: Section) -> Span
     let start = p.start;
     let end = p.end;
     let v = p.verdict;
-    match v {
-        Verdict::Refused(n, place) => psv0::refused_span(n, place),
-        Verdict::Accepted => moved(psv0::section_span(&b[start..end], edition, section), start),
+    if let Verdict::Refused(n, place) = v {
+        return psv0::refused_span(n, place);
     }
+    moved(psv0::section_span(&b[start..end], edition, section), start)
 }
 
 // The bytes of a stretch.
@@ -270,13 +268,13 @@ pub fn section_bytes<'a>(b: &'a [u8], edition: usize, section: Section) -> &'a [
     stretch(b, section_span(b, edition, section))
 }
 
-// A part of a table under a verdict.
-fn part_under(v: Verdict, t: Table, name: &[u8; 4]) -> Part
-    ensures { λ r. ⌜ r ≡ partBeside v (partIn t (u32At (now (name .entry)) 0)) ⌝ }
+// A part under a verdict.
+fn part_under(v: Verdict, p: Part) -> Part
+    ensures { λ r. ⌜ r ≡ partBeside v p ⌝ }
 {
     match v {
         Verdict::Refused(n, place) => part_table::no_part(Verdict::Refused(n, place)),
-        Verdict::Accepted => part_table::part_in(t, name),
+        Verdict::Accepted => p,
     }
 }
 
@@ -287,19 +285,19 @@ pub fn part(b: &[u8], edition: usize, name: &[u8; 4]) -> Part
     if 3 < edition {
         return part_table::no_part(Verdict::Refused(25, 0));
     }
-    let t = part_table::read(b);
-    let p = psv0_in(b, t, edition);
+    let x = wire::u32_at(name, 0);
+    let t = parts_for(b, x);
+    let p = psv0_in(b, t, x, edition);
     let start = p.start;
     let end = p.end;
     let v = p.verdict;
-    match v {
-        Verdict::Refused(n, place) => part_table::no_part(Verdict::Refused(n, place)),
-        Verdict::Accepted => {
-            let o = psv0::open(&b[start..end], edition);
-            let judged = o.verdict;
-            part_under(judged, t, name)
-        }
+    if let Verdict::Refused(n, place) = v {
+        return part_table::no_part(Verdict::Refused(n, place));
     }
+    let o = psv0::open(&b[start..end], edition);
+    let judged = o.verdict;
+    let asked = t.third;
+    part_under(judged, asked)
 }
 
 // The data of one part, a part of the caller's slice: no bytes where the query refuses.

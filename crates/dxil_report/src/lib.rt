@@ -45,32 +45,28 @@ pub fn report(b: &[u8], edition: usize) -> ProgramReport
     let offset = part.offset;
     let size = part.size;
     let v = part.verdict;
-    match v {
-        Verdict::Refused(n, place) => refused(n, place),
-        Verdict::Accepted => {
-            let start = offset + 8;
-            let end = start + size;
-            let p = dxil::read(&b[start..end]);
-            let judged = p.verdict;
-            match judged {
-                Verdict::Refused(n, place) => refused(n, place),
-                Verdict::Accepted => {
-                    let a = container::runtime_info(b, edition);
-                    let info = a.info;
-                    let stage = info.stage;
-                    let h = p.header;
-                    let stages = compared(h.stage, stage);
-                    ProgramReport {
-                        verdict: Verdict::Accepted,
-                        header: h,
-                        start: start + p.start,
-                        len: p.len,
-                        psv0_stage: stage,
-                        stages: stages,
-                    }
-                }
-            }
-        }
+    if let Verdict::Refused(n, place) = v {
+        return refused(n, place);
+    }
+    let start = offset + 8;
+    let end = start + size;
+    let p = dxil::read(&b[start..end]);
+    let judged = p.verdict;
+    if let Verdict::Refused(n, place) = judged {
+        return refused(n, place);
+    }
+    let a = container::runtime_info(b, edition);
+    let info = a.info;
+    let stage = info.stage;
+    let h = p.header;
+    let stages = compared(h.stage, stage);
+    ProgramReport {
+        verdict: Verdict::Accepted,
+        header: h,
+        start: start + p.start,
+        len: p.len,
+        psv0_stage: stage,
+        stages: stages,
     }
 }
 

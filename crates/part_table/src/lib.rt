@@ -2,17 +2,19 @@
 use part_table_layout::Found;
 use part_table_layout::Part;
 use part_table_layout::Table;
+use part_table_layout::ThreeParts;
 use wire::Verdict;
 ghost use mathlib.Core.Path.{_≡_};
-ghost use Prim.Native.Nat.{_+_, _*_, _≤_};
+ghost use Prim.Native.Nat.{_≤_, _<_};
 ghost use lib.Dec.{ltb};
 ghost use lib.ListN.{getD};
 ghost use Rattle.constants.specs.Name.{isKnown};
 ghost use Rattle.wire.specs.Number.{u32At};
 ghost use Rattle.wire.specs.Search.{first};
 ghost use Rattle.wire.specs.Verdict.{each};
-ghost use Rattle.part_table_layout.specs.Lookup.{foundIn, partIn, refusedPart, partOf, dataOf};
-ghost use Rattle.part_table_layout.specs.Table.{countOf, hasName, nameJudged, headerJudged, partsJudged, refusedTable, tableIf, tableOf};
+ghost use Rattle.part_table_layout.specs.Lookup.{foundIn, find, partIn, refusedPart, partAt, partOf, dataOf};
+ghost use Rattle.part_table_layout.specs.Table.{countOf, offsetAt, nameAt, sizeAt, earliest, partJudged, hasName, nameJudged, headerJudged, partsJudged, filled, refusedTable, tableIf, tableOf};
+ghost use Rattle.part_table_layout.specs.Three.{threeIf, threeOf};
 
 // A name's number: its four bytes, little-endian.
 pub fn name_number(name: &[u8; 4]) -> u32
@@ -74,28 +76,22 @@ fn empty(v: Verdict) -> Table
     }
 }
 
-// The first of the first n names that equals x, or n.
-fn first_named(names: &[u32; 96], n: usize, x: u32) -> usize
-    requires { ⌜ n ≤ 96 ⌝ }
-    ensures { λ r. ⌜ r ≡ first (hasName (λ k. getD (now (names .entry)) k 0) x) n ⌝ }
-{
-    let mut i = 0;
-    while i < n {
-        if names[i] == x {
-            return i;
-        }
-        i += 1;
-    }
-    i
-}
-
-// The part of a table, given by its names and its count, that has a name's number. No more than 96 names are looked at.
+// The part of a table, given by its names and its count, that has a name's number. No more than 96 names are looked at. This is the one
+// search by name: every lookup goes through it.
 pub fn find_name(names: &[u32; 96], count: usize, x: u32) -> Found
     ensures { λ r. ⌜ r ≡ foundIn (now (names .entry)) count x ⌝ }
 {
     let n = if count < 96 { count } else { 96 };
-    let k = first_named(names, n, x);
-    if k < n { Found::At(k) } else { Found::Nothing }
+    let mut i = 0;
+    loop {
+        if n <= i {
+            break Found::Nothing;
+        }
+        if names[i] == x {
+            break Found::At(i);
+        }
+        i += 1;
+    }
 }
 
 // Whether x is one of the first n names. All n are looked at: with no way out of the loop, several are compared at once when compiled.
@@ -129,34 +125,64 @@ fn judge_names(names: &[u32; 96], n: usize) -> Verdict
     Verdict::Accepted
 }
 
+// A part's header, beside the verdict of 8.
+struct PartHeader {
+    verdict: Verdict,
+    offset: u32,
+    size: u32,
+}
+
+// 8 of part i, which may not start before the end of what stands before it.
+fn part_header(b: &[u8], i: usize, end: usize) -> PartHeader
+    requires { ⌜ (i < 96) × (end ≡ earliest (now b) i) ⌝ }
+    ensures { λ r. ⌜ (r .verdict ≡ partJudged (now (b .entry)) i) × ((r .verdict ≡ Verdict.Accepted) → (r .offset ≡ offsetAt (now (b .entry)) i) × (r .size ≡ sizeAt (now (b .entry)) i)) ⌝ }
+{
+    let len = b.len();
+    let bad = PartHeader {
+        verdict: Verdict::Refused(8, i),
+        offset: 0,
+        size: 0,
+    };
+    let offset = wire::u32_at(b, 32 + 4 * i);
+    let at = offset as usize;
+    if at < end {
+        return bad;
+    }
+    if len < at + 8 {
+        return bad;
+    }
+    let size = wire::u32_at(b, at + 4);
+    if len < at + 8 + size as usize {
+        return bad;
+    }
+    PartHeader {
+        verdict: Verdict::Accepted,
+        offset,
+        size,
+    }
+}
+
 // The headers of the parts, read up to the first that 8 refuses; then 9. The table is filled where it stands: a copy of it costs as much
 // as reading some ten parts.
 fn read_parts(b: &[u8], count: usize) -> Table
     requires { ⌜ (count ≡ countOf (now b)) × (count ≤ 96) ⌝ }
     ensures { λ r. ⌜ r ≡ tableIf (partsJudged (now (b .entry))) (now (b .entry)) ⌝ }
 {
-    let len = b.len();
     let mut t = empty(Verdict::Accepted);
     t.count = count;
     let mut end = 32 + 4 * count;
     let mut i = 0;
     while i < count {
-        let offset = wire::u32_at(b, 32 + 4 * i);
-        let at = offset as usize;
-        if at < end {
-            return empty(Verdict::Refused(8, i));
+        let h = part_header(b, i, end);
+        let v = h.verdict;
+        if let Verdict::Refused(_, _) = v {
+            return empty(v);
         }
-        if len < at + 8 {
-            return empty(Verdict::Refused(8, i));
-        }
-        let size = wire::u32_at(b, at + 4);
-        end = at + 8 + size as usize;
-        if len < end {
-            return empty(Verdict::Refused(8, i));
-        }
+        let at = h.offset as usize;
+        end = at + 8 + h.size as usize;
         t.names[i] = wire::u32_at(b, at);
-        t.offsets[i] = offset;
-        t.sizes[i] = size;
+        t.offsets[i] = h.offset;
+        t.sizes[i] = h.size;
         i += 1;
     }
     let twice = judge_names(&t.names, count);
@@ -211,11 +237,109 @@ pub fn part_in(t: Table, name: &[u8; 4]) -> Part
     }
 }
 
+// What a refusal shows of three parts.
+fn no_parts(v: Verdict) -> ThreeParts
+    ensures { λ r. ⌜ r ≡ record { verdict = v; count = 0; first = refusedPart v; second = refusedPart v; third = refusedPart v } ⌝ }
+{
+    ThreeParts {
+        verdict: v,
+        count: 0,
+        first: no_part(v),
+        second: no_part(v),
+        third: no_part(v),
+    }
+}
+
+// The part of a file with a name, among the names that were read of it. Offset and size are read of the file.
+fn listed(b: &[u8], names: &[u32; 96], count: usize, x: u32) -> Part
+    requires { ⌜ (count ≡ countOf (now b)) × (count ≤ 96) × (now names ≡ filled (nameAt (now b)) count) ⌝ }
+    ensures { λ r. ⌜ r ≡ partAt (now (b .entry)) (find (now (b .entry)) x) ⌝ }
+{
+    let f = find_name(names, count, x);
+    match f {
+        Found::Nothing => no_part(Verdict::Refused(26, 0)),
+        Found::At(k) => {
+            let at = wire::u32_at(b, 32 + 4 * k) as usize;
+            Part {
+                verdict: Verdict::Accepted,
+                number: k,
+                offset: at,
+                size: wire::u32_at(b, at + 4) as usize,
+            }
+        }
+    }
+}
+
+// Three parts of a file, among the names that were read of it. The third is searched only where its name is not the second again.
+fn all_listed(b: &[u8], names: &[u32; 96], count: usize, x: u32, y: u32, z: u32) -> ThreeParts
+    requires { ⌜ (count ≡ countOf (now b)) × (count ≤ 96) × (now names ≡ filled (nameAt (now b)) count) ⌝ }
+    ensures { λ r. ⌜ r ≡ threeIf Verdict.Accepted (now (b .entry)) x y z ⌝ }
+{
+    let first = listed(b, names, count, x);
+    let second = listed(b, names, count, y);
+    if y == z {
+        return ThreeParts {
+            verdict: Verdict::Accepted,
+            count,
+            first,
+            second,
+            third: second,
+        };
+    }
+    ThreeParts {
+        verdict: Verdict::Accepted,
+        count,
+        first,
+        second,
+        third: listed(b, names, count, z),
+    }
+}
+
+// As read_parts, with the names alone kept.
+fn find_parts(b: &[u8], count: usize, x: u32, y: u32, z: u32) -> ThreeParts
+    requires { ⌜ (count ≡ countOf (now b)) × (count ≤ 96) ⌝ }
+    ensures { λ r. ⌜ r ≡ threeIf (partsJudged (now (b .entry))) (now (b .entry)) x y z ⌝ }
+{
+    let mut names = [0u32; 96];
+    let mut end = 32 + 4 * count;
+    let mut k = 0;
+    while k < count {
+        let h = part_header(b, k, end);
+        let v = h.verdict;
+        if let Verdict::Refused(_, _) = v {
+            return no_parts(v);
+        }
+        let at = h.offset as usize;
+        end = at + 8 + h.size as usize;
+        names[k] = wire::u32_at(b, at);
+        k += 1;
+    }
+    let twice = judge_names(&names, count);
+    if let Verdict::Refused(_, _) = twice {
+        return no_parts(twice);
+    }
+    all_listed(b, &names, count, x, y, z)
+}
+
+// Refusals 1 to 9, and the parts with three names. No table is built, and the names are cleared only once the header has passed. Who wants
+// fewer parts says a name again.
+pub fn three_parts(b: &[u8], x: u32, y: u32, z: u32) -> ThreeParts
+    ensures { λ r. ⌜ r ≡ threeOf (now (b .entry)) x y z ⌝ }
+{
+    let v = judge_header(b);
+    if let Verdict::Refused(_, _) = v {
+        return no_parts(v);
+    }
+    find_parts(b, wire::u32_at(b, 28) as usize, x, y, z)
+}
+
 // The part with a name: the table's refusal, or 26 where no part has the name.
 pub fn find_part(b: &[u8], name: &[u8; 4]) -> Part
     ensures { λ r. ⌜ r ≡ partOf (now (b .entry)) (u32At (now (name .entry)) 0) ⌝ }
 {
-    part_in(read(b), name)
+    let x = wire::u32_at(name, 0);
+    let t = three_parts(b, x, x, x);
+    t.first
 }
 
 // The data of the part with a name, a part of the caller's slice: no bytes where the lookup refuses.

@@ -32,6 +32,10 @@ pub table-end : (b : List ℕ) {n : ℕ} → n ≡ countOf b → 32 + 4 * n ≡ 
 unfolding earliest
 table-end b h = rw h
 
+pub next-earliest : (b : List ℕ) (k : ℕ) {s z : ℕ} → s ≡ offsetAt b k → z ≡ sizeAt b k → s + 8 + z ≡ earliest b (k + 1)
+unfolding earliest endAt
+next-earliest b k hs hz = rw (add-one, hs, hz)
+
 -- 8 of part k, which starts at s where end is the earliest place
 module _ (b : List ℕ) (k : ℕ) {s end : ℕ} (hs : s ≡ offsetAt b k) (he : end ≡ earliest b k) where
   pub early : s < end → partJudged b k ≡ Refused 8 k
@@ -50,10 +54,6 @@ module _ (b : List ℕ) (k : ℕ) {s end : ℕ} (hs : s ≡ offsetAt b k) (he : 
     end-at : s + 8 + z ≡ endAt b k
     unfolding endAt
     end-at = rw (hs, size-is)
-
-    pub end-is : s + 8 + z ≡ earliest b (k + 1)
-    unfolding earliest
-    end-is = rw add-one end-at
 
     pub no-data : end ≤ s → s + 8 ≤ length b → length b < s + 8 + z → partJudged b k ≡ Refused 8 k
     unfolding partJudged

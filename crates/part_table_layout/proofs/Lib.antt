@@ -3,3 +3,4 @@ pub mod Filled
 pub mod Judged
 pub mod Lookups
 pub mod Readings
+pub mod Threes

@@ -14,7 +14,7 @@ use Rattle.wire.specs.Choice.{choose}
 use Rattle.wire.specs.Search.{first}
 use Rattle.wire.specs.declared.Verdict.{Verdict}
 use Rattle.wire.specs.declared.Verdict.the-variants.{Accepted, Refused}
-use Rattle.wire.proofs.Searches.{first-agree, first-below, first-at, first-is, first-none}
+use Rattle.wire.proofs.Searches.{Searched, begin, more, found, none, first-agree, first-below, first-at, first-is, first-none}
 use Rattle.part_table_layout.specs.Lookup.{foundBelow, foundIn, find, refusedPart, entryAt, entryIf, partIn, partAt, partIf, partOf, dataOf}
 use Rattle.part_table_layout.specs.Table.{hasName, countOf, offsetAt, nameAt, sizeAt, dataAt, filled, tableJudged, acceptedTable, tableIf, tableOf}
 use Rattle.part_table_layout.specs.declared.Found.{Found}
@@ -24,28 +24,38 @@ use Rattle.part_table_layout.specs.declared.Table.{Table}
 use Rattle.part_table_layout.proofs.Accepted.{accepted-told, names-differ, part-inside}
 use Rattle.part_table_layout.proofs.Filled.{filled-below}
 
--- ---- a search among a table's names, of which no more than 96 count
-pub capped-below : {m n : ℕ} → m ≡ n → n < 96 → m ≡ choose (ltb n 96) n 96
-capped-below e h = simp (lt-ltb _ _ h, e)
+-- ---- the search among a table's names, of which no more than 96 count
+-- the loop has come to i: n is how many names count, and none below i is x
+pub record Looked (names : List ℕ) (count x n i : ℕ) : Type 0 where
+  pub cap : n ≡ choose (ltb count 96) count 96
+  pub few : n ≤ 96
+  pub searched : Searched (hasName (λ j. getD names j 0) x) n i
 
-pub capped : {m n : ℕ} → m ≡ 96 → 96 ≤ n → m ≡ choose (ltb n 96) n 96
-capped e h = simp (le-ltb _ _ h, e)
+module _ (names : List ℕ) (count x : ℕ) where
+  pub all-count : {n : ℕ} → n ≡ count → count < 96 → Looked names count x n 0
+  all-count {n} e h = record { cap = simp (lt-ltb _ _ h, e); few = omega arith; searched = begin _ n }
 
-module _ (names : List ℕ) (n x : ℕ) {m k : ℕ} (hm : m ≡ choose (ltb n 96) n 96) (hk : k ≡ first (hasName (λ j. getD names j 0) x) m) where
-  pub found-in : k < m → At k ≡ foundIn names n x
-  unfolding foundIn
-  found-in h = rw (← hm, ← hk, lt-ltb _ _ h)
+  pub some-count : {n : ℕ} → n ≡ 96 → 96 ≤ count → Looked names count x n 0
+  some-count {n} e h = record { cap = simp (le-ltb _ _ h, e); few = omega arith; searched = begin _ n }
 
-  pub not-in : m ≤ k → Nothing ≡ foundIn names n x
-  unfolding foundIn
-  not-in h = rw (← hm, ← hk, le-ltb _ _ h)
+  module _ {n i : ℕ} (l : Looked names count x n i) where
+    pub look-on : i < n → (getD names i 0 ≡ x → ⊥) → Looked names count x n (i + 1)
+    look-on h e = record { cap = l .cap; few = l .few; searched = more _ n (l .searched) h (ne-eqb _ _ e) }
+
+    pub look-here : i < n → getD names i 0 ≡ x → At i ≡ foundIn names count x
+    unfolding foundIn
+    look-here h e = let r = found _ n (l .searched) h (eq-eqb _ _ e) in rw (← l .cap, ← r, lt-ltb _ _ h)
+
+    pub look-nowhere : n ≤ i → Nothing ≡ foundIn names count x
+    unfolding foundIn
+    look-nowhere h = let r = none _ n (l .searched) h in rw (← l .cap, ← r, le-ltb _ _ h)
 
 cap-le : (n : ℕ) (s : Bool) → (s ≡ true → n < 96) → choose s n 96 ≤ 96
 cap-le n true h = let l = h refl in omega arith
 cap-le n false h = omega arith
 
 few-is : (n : ℕ) → n ≤ 96 → choose (ltb n 96) n 96 ≡ n
-few-is n h = ⊎-elim (λ e. rw e) (λ l. sym (capped-below refl l)) (eq-or-lt-of-le h)
+few-is n h = ⊎-elim (λ e. rw e) (λ l. simp (lt-ltb n 96 l)) (eq-or-lt-of-le h)
 
 -- names that were filled in are looked up as what they were filled from
 pub found-in-filled : (f : ℕ → ℕ) (n x : ℕ) → n ≤ 96 → foundIn (filled f n) n x ≡ foundBelow n (first (hasName f x) n)

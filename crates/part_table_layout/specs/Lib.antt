@@ -1,2 +1,3 @@
 pub mod Lookup
 pub mod Table
+pub mod Three

@@ -25,3 +25,13 @@ pub struct Part {
     pub offset: usize,
     pub size: usize,
 }
+
+// Three parts by their names, beside the verdict of 1 to 9 and the number of parts. A part that is not there has 26; a refusal has count 0
+// and stands in each part.
+pub struct ThreeParts {
+    pub verdict: Verdict,
+    pub count: usize,
+    pub first: Part,
+    pub second: Part,
+    pub third: Part,
+}

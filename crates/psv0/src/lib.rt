@@ -488,15 +488,13 @@ pub fn runtime_info(d: &[u8], edition: usize) -> InfoAnswer
 {
     let l = psv0_sections::locate(d, edition);
     let v = l.verdict;
-    match v {
-        Verdict::Refused(n, place) => refused_info(n, place),
-        Verdict::Accepted => {
-            let p = l.places;
-            InfoAnswer {
-                verdict: Verdict::Accepted,
-                info: info_in(d, p),
-            }
-        }
+    if let Verdict::Refused(n, place) = v {
+        return refused_info(n, place);
+    }
+    let p = l.places;
+    InfoAnswer {
+        verdict: Verdict::Accepted,
+        info: info_in(d, p),
     }
 }
 
@@ -506,13 +504,11 @@ pub fn resource(d: &[u8], edition: usize, i: usize) -> ResourceAnswer
 {
     let l = psv0_sections::locate(d, edition);
     let v = l.verdict;
-    match v {
-        Verdict::Refused(n, place) => refused_resource(n, place),
-        Verdict::Accepted => {
-            let p = l.places;
-            resource_in(d, p, i)
-        }
+    if let Verdict::Refused(n, place) = v {
+        return refused_resource(n, place);
     }
+    let p = l.places;
+    resource_in(d, p, i)
 }
 
 // Element record i, from 0 over all three lists.
@@ -521,13 +517,11 @@ pub fn element(d: &[u8], edition: usize, i: usize) -> ElementAnswer
 {
     let l = psv0_sections::locate(d, edition);
     let v = l.verdict;
-    match v {
-        Verdict::Refused(n, place) => refused_element(n, place),
-        Verdict::Accepted => {
-            let p = l.places;
-            element_in(d, p, i)
-        }
+    if let Verdict::Refused(n, place) = v {
+        return refused_element(n, place);
     }
+    let p = l.places;
+    element_in(d, p, i)
 }
 
 // The lists' lengths.
@@ -536,15 +530,13 @@ pub fn lengths(d: &[u8], edition: usize) -> LengthsAnswer
 {
     let l = psv0_sections::locate(d, edition);
     let v = l.verdict;
-    match v {
-        Verdict::Refused(n, place) => refused_lengths(n, place),
-        Verdict::Accepted => {
-            let p = l.places;
-            LengthsAnswer {
-                verdict: Verdict::Accepted,
-                lengths: lengths_at(p),
-            }
-        }
+    if let Verdict::Refused(n, place) = v {
+        return refused_lengths(n, place);
+    }
+    let p = l.places;
+    LengthsAnswer {
+        verdict: Verdict::Accepted,
+        lengths: lengths_at(p),
     }
 }
 
@@ -554,13 +546,11 @@ pub fn view_span(d: &[u8], edition: usize, view: View) -> Span
 {
     let l = psv0_sections::locate(d, edition);
     let v = l.verdict;
-    match v {
-        Verdict::Refused(n, place) => refused_span(n, place),
-        Verdict::Accepted => {
-            let p = l.places;
-            view_in(d, p, view)
-        }
+    if let Verdict::Refused(n, place) = v {
+        return refused_span(n, place);
     }
+    let p = l.places;
+    view_in(d, p, view)
 }
 
 // The bytes of a view; none beside a refusal.
@@ -579,13 +569,11 @@ pub fn section_span(d: &[u8], edition: usize, section: Section) -> Span
 {
     let l = psv0_sections::locate(d, edition);
     let v = l.verdict;
-    match v {
-        Verdict::Refused(n, place) => refused_span(n, place),
-        Verdict::Accepted => {
-            let p = l.places;
-            section_in(d, p, section)
-        }
+    if let Verdict::Refused(n, place) = v {
+        return refused_span(n, place);
     }
+    let p = l.places;
+    section_in(d, p, section)
 }
 
 // The bytes that are handed out of a section; none beside a refusal.

@@ -8,21 +8,23 @@ use native.Mathlib.Omega.{arith}
 use lib.Dec.{leb, ltb, eqb}
 use lib.ListN.{length, getD, take, drop, List·getD-eq-default}
 use lib.Seq.{getD-take, take-take}
-use borrow.Author.Tests.{lt-ltb, le-ltb, le-leb, lt-leb, leb-true}
+use borrow.Author.Tests.{lt-ltb, le-ltb, ltb-true, ltb-false, le-leb, lt-leb, leb-true}
 use Rattle.constants.specs.Edition.{sizeOf}
 use Rattle.wire.specs.Number.{u32At}
 use Rattle.wire.specs.Verdict.{_then_, check}
+use Rattle.wire.specs.declared.Verdict.{Verdict}
 use Rattle.wire.specs.declared.Verdict.the-variants.{Accepted, Refused}
 use Rattle.wire.proofs.Numbers.{u32-take}
 use Rattle.psv0_layout.specs.Field.{hasThreads}
 use Rattle.psv0_layout.specs.Layout.{sections, seen, bodyOf, rows, resourceWidth}
-use Rattle.psv0_layout.specs.Shown.{Value, unset, number, view, resourceField, elementField, needs, setIf, ofElement, elementFields, value, shownAt, isSet, queried}
+use Rattle.psv0_layout.specs.Shown.{Value, unset, number, view, Question, resourceField, elementField, needs, setIf, ofElement, elementFields, value, shownAt, isSet, beside, queried}
 use Rattle.psv0_layout.proofs.Positions.{part-u16, rows-at, rows-length}
 use Rattle.psv0_layout.proofs.Wholes.{width-fits}
-use Rattle.psv0_layout.specs.Answers.{refusedResource, refusedElement, fieldOf, infoOf, resourceOf, elementOf, resourceAnswerOf, elementAnswerOf}
+use Rattle.psv0_layout.specs.Answers.{refusedInfo, refusedResource, refusedElement, fieldOf, infoOf, resourceOf, elementOf, infoAnswerOf, resourceAnswerOf, elementAnswerOf}
 use Rattle.psv0_layout.specs.Parts.{ofRuntime, resourceShown, elementShown}
 use Rattle.psv0_layout.specs.declared.ElementAnswer.{ElementAnswer}
 use Rattle.psv0_layout.specs.declared.Field.the-variants.{Set}
+use Rattle.psv0_layout.specs.declared.InfoAnswer.{InfoAnswer}
 use Rattle.psv0_layout.specs.declared.ResourceAnswer.{ResourceAnswer}
 use Rattle.psv0_layout.proofs.Records.{resource-early}
 
@@ -39,6 +41,27 @@ found-field (view l) n e = found (view l) refl
 not-found : (x : Value) → unset ≡ x → Refused 26 0 ≡ queried Accepted x
 unfolding queried _then_ check
 not-found x e = rw (← e)
+
+-- ---- beside a refusal by the opening nothing is shown, whatever f would show
+-- a query refuses with what the opening refuses with, or with 26
+opening-refuses : (o : Verdict) (x : Value) {n p : ℕ} → Refused n p ≡ queried o x → (n ≡ 26 → ⊥) → Refused n p ≡ o
+unfolding queried _then_ check
+opening-refuses (Refused m q) x e h = e
+opening-refuses Accepted unset e h = absurd (h (cc))
+opening-refuses Accepted (number m) e h = absurd (let z : _≡_ {A = ℕ} 0 1 = cc in omega arith)
+opening-refuses Accepted (view l) e h = absurd (let z : _≡_ {A = ℕ} 0 1 = cc in omega arith)
+
+module _ (o : Verdict) (f : Question → Value) {n p : ℕ} where
+  pub info-hidden : {a : InfoAnswer} → a ≡ infoAnswerOf o (λ q. beside o (f q)) → a .verdict ≡ Refused n p
+      → refusedInfo n p ≡ infoAnswerOf o (λ q. beside o (f q))
+  unfolding infoAnswerOf
+  info-hidden h e = ap (λ v. infoAnswerOf v (λ q. beside v (f q))) (sym e ∙ ap (λ x. x .verdict) h)
+
+  pub resource-hidden : (i : ℕ) {a : ResourceAnswer} → a ≡ resourceAnswerOf o (λ q. beside o (f q)) i → a .verdict ≡ Refused n p
+      → (n ≡ 26 → ⊥) → refusedResource n p ≡ resourceAnswerOf o (λ q. beside o (f q)) i
+  unfolding resourceAnswerOf queried _then_
+  resource-hidden i h e k =
+      ap (λ v. resourceAnswerOf v (λ q. beside v (f q)) i) (opening-refuses o (beside o (f (resourceField i 0))) (sym e ∙ ap (λ x. x .verdict) h) k)
 
 -- ---- the runtime record: a field lies inside what its own edition sees
 module _ (r : List ℕ) where
@@ -176,3 +199,30 @@ module _ (er : ℕ) (d : List ℕ) (i : ℕ) where
       let g : (f : ℕ) → setIf (ltb f 13) (number (getD (elementFields r) f 0)) ≡ shownAt er d (elementField i f) =
       λ f. ap (λ x. setIf (ltb f 13) (number (getD (elementFields x) f 0))) q ∙ of-element _ h l in
       λ j. record { verdict = found-field (shownAt er d (elementField i 0)) (u32At r 0) (ap fieldOf (g 0)) j; element = elementOf (λ f. fieldOf (g f j)) }
+
+  -- a query for element i that refuses though the opening accepts: there is no such element, and nothing is shown
+  module _ {n p : ℕ} (e : Refused n p ≡ queried Accepted (shownAt er d (elementField i 0))) where
+    element-none : 1 ≤ er → sections d .elements .count ≤ i
+    unfolding elementAnswerOf
+    element-none g = go (ltb i (sections d .elements .count)) refl
+      where
+        go : (t : Bool) → ltb i (sections d .elements .count) ≡ t → sections d .elements .count ≤ i
+        go false q = ltb-false i _ q
+        go true q =
+            let v : Accepted ≡ queried Accepted (shownAt er d (elementField i 0)) = ap (λ x. x .verdict) (element-there _ g (ltb-true i _ q) refl) in
+            absurd (let z : _≡_ {A = ℕ} 0 1 = cc in omega arith)
+
+    element-unset : refusedElement n p ≡ elementAnswerOf Accepted (shownAt er d) i
+    unfolding elementAnswerOf
+    element-unset =
+        let v : Refused 26 0 ≡ queried Accepted (shownAt er d (elementField i 0)) = ap (λ x. x .verdict) (no-element element-none) in
+        let a : n ≡ 26 = cc in
+        let b : p ≡ 0 = cc in
+        ap₂ refusedElement a b ∙ no-element element-none
+
+pub element-hidden : (o : Verdict) (er : ℕ) (d : List ℕ) (i : ℕ) {a : ElementAnswer} {n p : ℕ} → a ≡ elementAnswerOf o (λ q. beside o (shownAt er d q)) i
+    → a .verdict ≡ Refused n p → refusedElement n p ≡ elementAnswerOf o (λ q. beside o (shownAt er d q)) i
+unfolding elementAnswerOf queried _then_
+element-hidden Accepted er d i h e = element-unset er d i (sym e ∙ ap (λ x. x .verdict) h)
+element-hidden (Refused m q) er d i h e =
+    ap (λ v. elementAnswerOf v (λ x. beside v (shownAt er d x)) i) (sym e ∙ ap (λ x. x .verdict) h)

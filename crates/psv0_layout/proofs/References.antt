@@ -7,10 +7,9 @@ use mathlib.Core.List.{List, [], _∷_}
 use mathlib.Core.Logic.{inl, inr, ⊎-elim}
 use native.Mathlib.Omega.{arith}
 use native.Mathlib.Numerals.{add-one}
-use native.Mathlib.Nat.{eq-or-lt-of-le}
 use lib.Dec.{ltb}
-use lib.ListN.{length, getD, take, drop, length-drop}
-use lib.Seq.{getD-drop}
+use lib.ListN.{length, getD, take, drop, length-take, length-drop}
+use lib.Seq.{getD-take, getD-drop}
 use borrow.Author.Tests.{lt-ltb, le-ltb, le-leb, lt-leb, leb-true, ltb-true, ltb-false}
 use Rattle.wire.specs.Number.{u32At}
 use Rattle.wire.specs.Verdict.{_then_, check, each}
@@ -61,14 +60,26 @@ no-zero-from : (t : List ℕ) (o : ℕ) → NoZero t o (length t) → hasZero (d
 no-zero-from t o f =
     zero-out (drop o t) (λ i a b e. f (o + i) (omega arith) (omega (arith, simp length-drop at b)) (rw getD-drop at e))
 
--- what a search knows: nothing yet, one more byte at the end, one more byte in front
+-- what a search knows: nothing yet, one byte, one stretch and the next, one more byte in front
 module _ (t : List ℕ) where
   pub noZero-begin : (i : ℕ) → NoZero t i i
   noZero-begin i j a b e = absurd (omega arith)
 
+  pub noZero-one : (i : ℕ) → (getD t i 0 ≡ 0 → ⊥) → NoZero t i (i + 1)
+  noZero-one i g j a b e = let q : j ≡ i = omega arith in g (rw q at e)
+
+  pub noZero-join : (i m n : ℕ) → NoZero t i m → NoZero t m n → NoZero t i n
+  noZero-join i m n f g j a b e = let l : j < m → ⊥ = λ h. f j a h e in g j (omega arith) b e
+
   pub noZero-back : (i n : ℕ) → NoZero t (i + 1) n → (getD t i 0 ≡ 0 → ⊥) → NoZero t i n
-  noZero-back i n f g j a b e =
-      ⊎-elim (λ q. g (rw (← q) at e)) (λ l. f j (omega arith) b e) (eq-or-lt-of-le a)
+  noZero-back i n f g = noZero-join i (i + 1) n (noZero-one i g) f
+
+  -- a stretch whose search from its end came to its front
+  pub noZero-part : (i m : ℕ) → m ≤ length t → UpToLastZero (take (m - i) (drop i t)) 0 → NoZero t i m
+  noZero-part i m h u j a b e =
+      let q : i + (j - i) ≡ j = omega arith in
+      let k : j - i < m - i = omega arith in
+      u .none (j - i) (omega arith) (simp (length-take, length-drop) (omega arith)) (rw (getD-take, getD-drop, q) e)
 
   -- a search from the end that comes to the front, and one that stops
   pub lastZero-none : NoZero t 0 (length t) → UpToLastZero t 0

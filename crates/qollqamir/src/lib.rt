@@ -38,7 +38,7 @@ ghost use Rattle.dxil_layout.specs.Program.{programOf};
 ghost use Rattle.dxil_report_layout.specs.Reported.{programReportOf};
 ghost use Rattle.part_table_layout.specs.Lookup.{partOf};
 ghost use Rattle.part_table_layout.specs.Table.{tableOf};
-ghost use Rattle.psv0_layout.specs.Answers.{openingOf, infoAnswerOf, resourceAnswerOf, elementAnswerOf, lengthsAnswerOf, questionOf, bytesOf, bytesBeside};
+ghost use Rattle.psv0_layout.specs.Answers.{openingOf, infoAnswerOf, resourceAnswerOf, elementAnswerOf, lengthsAnswerOf, refusedInfo, refusedResource, refusedElement, questionOf, bytesOf, bytesBeside};
 ghost use Rattle.psv0_layout.specs.Judged.{opened};
 ghost use Rattle.psv0_layout.specs.Layout.{editionRead, defaultEdition};
 ghost use Rattle.psv0_layout.specs.Shown.{answered, queried};
@@ -60,6 +60,8 @@ pub struct CField {
     pub set: u32,
     pub value: u32,
 }
+
+const UNSET: CField = CField { set: 0, value: 0 };
 
 // A part table.
 #[repr(C)]
@@ -265,7 +267,7 @@ fn c_field(f: Field) -> CField
 {
     match f {
         Field::Set(value) => CField { set: 1, value },
-        Field::Unset => CField { set: 0, value: 0 },
+        Field::Unset => UNSET,
     }
 }
 
@@ -390,6 +392,79 @@ fn c_lengths(a: LengthsAnswer) -> CLengths
         strings: c_field(strings),
         indices: c_field(indices),
         elements: c_field(elements),
+    }
+}
+
+// What crosses where a query refuses, written at once: to make it of fields that are unset takes longer than to refuse.
+// c_info's answer has a name of its own, `shown`, so that the refusal is written in place and not copied.
+fn no_info(number: u8, place: usize) -> CInfo
+    ensures { λ r. ⌜ r ≡ cInfo (refusedInfo number place) ⌝ }
+{
+    CInfo {
+        verdict: CVerdict {
+            number: number as usize,
+            place,
+        },
+        minimum_wave_lanes: UNSET,
+        maximum_wave_lanes: UNSET,
+        stage: UNSET,
+        uses_view_id: UNSET,
+        max_vertex_count: UNSET,
+        patch_vectors: UNSET,
+        mesh_topology: UNSET,
+        input_elements: UNSET,
+        output_elements: UNSET,
+        patch_elements: UNSET,
+        input_vectors: UNSET,
+        output_vectors_0: UNSET,
+        output_vectors_1: UNSET,
+        output_vectors_2: UNSET,
+        output_vectors_3: UNSET,
+        threads_x: UNSET,
+        threads_y: UNSET,
+        threads_z: UNSET,
+        entry_name_offset: UNSET,
+    }
+}
+
+fn no_resource(number: u8, place: usize) -> CResource
+    ensures { λ r. ⌜ r ≡ cResource (refusedResource number place) ⌝ }
+{
+    CResource {
+        verdict: CVerdict {
+            number: number as usize,
+            place,
+        },
+        binding_type: UNSET,
+        space: UNSET,
+        lower_bound: UNSET,
+        upper_bound: UNSET,
+        kind: UNSET,
+        flags: UNSET,
+    }
+}
+
+fn no_element(number: u8, place: usize) -> CElement
+    ensures { λ r. ⌜ r ≡ cElement (refusedElement number place) ⌝ }
+{
+    CElement {
+        verdict: CVerdict {
+            number: number as usize,
+            place,
+        },
+        name_offset: UNSET,
+        index_reference: UNSET,
+        rows: UNSET,
+        start_row: UNSET,
+        columns: UNSET,
+        start_column: UNSET,
+        allocated: UNSET,
+        semantic_kind: UNSET,
+        component_type: UNSET,
+        interpolation: UNSET,
+        dynamic_mask: UNSET,
+        stream: UNSET,
+        reserved: UNSET,
     }
 }
 
@@ -745,7 +820,13 @@ pub extern "C" fn qollqamir_part(b: &[u8], edition: usize, name: &[u8; 4]) -> CP
 pub extern "C" fn qollqamir_runtime_info(b: &[u8], edition: usize) -> CInfo
     ensures { λ r. ⌜ r ≡ cInfo (infoAnswerOf (containerJudged edition (now (b .entry))) (containerAnswered edition (now (b .entry)))) ⌝ }
 {
-    c_info(container::runtime_info(b, edition))
+    let a = container::runtime_info(b, edition);
+    let v = a.verdict;
+    if let Verdict::Refused(n, place) = v {
+        return no_info(n, place);
+    }
+    let shown = c_info(a);
+    shown
 }
 
 // Resource record i.
@@ -805,7 +886,13 @@ pub extern "C" fn qollqamir_psv0_open(d: &[u8], edition: usize) -> COpening
 pub extern "C" fn qollqamir_psv0_runtime_info(d: &[u8], edition: usize) -> CInfo
     ensures { λ r. ⌜ r ≡ cInfo (infoAnswerOf (opened edition (now (d .entry))) (answered edition (now (d .entry)))) ⌝ }
 {
-    c_info(psv0::runtime_info(d, edition))
+    let a = psv0::runtime_info(d, edition);
+    let v = a.verdict;
+    if let Verdict::Refused(n, place) = v {
+        return no_info(n, place);
+    }
+    let shown = c_info(a);
+    shown
 }
 
 // Resource record i, of PSV0 data alone.
@@ -813,7 +900,15 @@ pub extern "C" fn qollqamir_psv0_runtime_info(d: &[u8], edition: usize) -> CInfo
 pub extern "C" fn qollqamir_psv0_resource(d: &[u8], edition: usize, i: usize) -> CResource
     ensures { λ r. ⌜ r ≡ cResource (resourceAnswerOf (opened edition (now (d .entry))) (answered edition (now (d .entry))) i) ⌝ }
 {
-    c_resource(psv0::resource(d, edition, i))
+    let a = psv0::resource(d, edition, i);
+    let v = a.verdict;
+    if let Verdict::Refused(n, place) = v {
+        // That a record without its first field shows no other is not proved here.
+        if n != 26 {
+            return no_resource(n, place);
+        }
+    }
+    c_resource(a)
 }
 
 // Element record i, over all lists, of PSV0 data alone.
@@ -821,7 +916,12 @@ pub extern "C" fn qollqamir_psv0_resource(d: &[u8], edition: usize, i: usize) ->
 pub extern "C" fn qollqamir_psv0_element(d: &[u8], edition: usize, i: usize) -> CElement
     ensures { λ r. ⌜ r ≡ cElement (elementAnswerOf (opened edition (now (d .entry))) (answered edition (now (d .entry))) i) ⌝ }
 {
-    c_element(psv0::element(d, edition, i))
+    let a = psv0::element(d, edition, i);
+    let v = a.verdict;
+    if let Verdict::Refused(n, place) = v {
+        return no_element(n, place);
+    }
+    c_element(a)
 }
 
 // The lists' lengths, of PSV0 data alone.

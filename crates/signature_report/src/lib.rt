@@ -53,23 +53,21 @@ pub fn report(b: &[u8], edition: usize, part: SignaturePart) -> SignatureReport
     let offset = p.offset;
     let size = p.size;
     let v = p.verdict;
-    match v {
-        Verdict::Refused(n, place) => no_report(n, place),
-        Verdict::Accepted => {
-            let start = offset + 8;
-            let end = start + size;
-            let s = signature::read(&b[start..end]);
-            let judged = s.verdict;
-            match judged {
-                Verdict::Refused(n, place) => no_report(n, place),
-                Verdict::Accepted => SignatureReport {
-                    verdict: Verdict::Accepted,
-                    count: s.count,
-                    start: start,
-                    len: size,
-                },
-            }
-        }
+    if let Verdict::Refused(n, place) = v {
+        return no_report(n, place);
+    }
+    let start = offset + 8;
+    let end = start + size;
+    let s = signature::read(&b[start..end]);
+    let judged = s.verdict;
+    if let Verdict::Refused(n, place) = judged {
+        return no_report(n, place);
+    }
+    SignatureReport {
+        verdict: Verdict::Accepted,
+        count: s.count,
+        start: start,
+        len: size,
     }
 }
 
@@ -101,14 +99,12 @@ pub fn element(b: &[u8], edition: usize, part: SignaturePart, i: usize) -> Signa
     let offset = p.offset;
     let size = p.size;
     let v = p.verdict;
-    match v {
-        Verdict::Refused(n, place) => signature::refused(n, place),
-        Verdict::Accepted => {
-            let start = offset + 8;
-            let end = start + size;
-            moved_by(signature::element(&b[start..end], i), start)
-        }
+    if let Verdict::Refused(n, place) = v {
+        return signature::refused(n, place);
     }
+    let start = offset + 8;
+    let end = start + size;
+    moved_by(signature::element(&b[start..end], i), start)
 }
 
 // The name of element i as a view of the container: 26 where it has none.

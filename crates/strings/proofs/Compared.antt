@@ -1,15 +1,18 @@
 -- Two strings, byte by byte: what a walk along both has still to compare.
 -- Assumes nothing.
-use Prim.Native.Nat.{ℕ, _+_, _≤_, _<_}
-use mathlib.Core.Path.{_≡_, refl, sym, _∙_}
+use Prim.Native.Nat.{ℕ, zero, suc, _+_, _-_, _≤_, _<_}
+use mathlib.Core.Path.{_≡_, refl, sym, ap, _∙_}
 use mathlib.Core.Bool.{Bool, true, false}
 use mathlib.Core.List.{List}
+use mathlib.Core.Logic.{_⊎_, ⊎-elim}
 use native.Mathlib.Omega.{arith}
 use native.Mathlib.Numerals.{add-one}
+use native.Mathlib.Nat.{add-zero}
 use lib.Dec.{eqb, ltb}
 use lib.ListN.{length, getD}
 use borrow.Author.Tests.{eq-eqb, ne-eqb, eqb-true, eqb-false, ltb-true, ltb-false}
 use Rattle.wire.specs.Stretch.{sameBytes}
+use Rattle.psv0_layout.specs.Position.{NoZero}
 use Rattle.psv0_layout.specs.Reference.{stringAt}
 use Rattle.psv0_layout.proofs.References.{string-stops, string-goes, string-past}
 
@@ -55,13 +58,15 @@ module _ (a c : List ℕ) (i j : ℕ) where
       go true q = sym (same-stops e (eqb-true _ _ q))
       go false q = sym (same-not (λ h. eqb-false _ _ q (sym h ∙ e)))
 
--- how long a string is, byte by byte
-module _ (t : List ℕ) (i : ℕ) where
-  pub length-stops : getD t i 0 ≡ 0 → length (stringAt t i) ≡ 0
-  length-stops e = rw (string-stops t i e)
+-- a string of k bytes, and one that goes up to r: a zero byte, or the end
+string-runs : (t : List ℕ) (o k : ℕ) → NoZero t o (o + k) → getD t (o + k) 0 ≡ 0 → k ≡ length (stringAt t o)
+string-runs t o zero f e = rw (string-stops t o (rw add-zero at e))
+string-runs t o (suc k) f e =
+    let q : suc o + k ≡ o + suc k = omega arith in
+    rw (string-goes t o (f o (omega arith) (omega arith)))
+    (ap suc (string-runs t (suc o) k (λ j a b. f j (omega arith) (omega arith)) (rw q e)))
 
-  pub length-goes : (getD t i 0 ≡ 0 → ⊥) → length (stringAt t i) ≡ 1 + length (stringAt t (i + 1))
-  length-goes f = rw (string-goes t i f, add-one) (omega arith)
-
-  pub length-past : length t ≤ i → length (stringAt t i) ≡ 0
-  length-past h = length-stops (string-past t i h)
+pub string-length : (t : List ℕ) (o r : ℕ) → o ≤ r → NoZero t o r → (r ≡ length t) ⊎ (getD t r 0 ≡ 0) → r - o ≡ length (stringAt t o)
+string-length t o r h f e =
+    let q : o + (r - o) ≡ r = omega arith in
+    string-runs t o (r - o) (rw q f) (rw q (⊎-elim (λ l. string-past t r (omega arith)) (λ z. z) e))

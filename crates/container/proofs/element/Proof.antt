@@ -28,10 +28,10 @@ element-spec =
     (λ c κs. search needs)
     (λ c. search needs)
     (λ c κs. search needs)
+    returns
     (λ c. search needs)
     sub-element
     part-element-start
     part-element-end
     (λ c κs. search needs)
-    returns
     returns-2)

@@ -28,10 +28,10 @@ lengths-spec =
     (λ c κs. search needs)
     (λ c. search needs)
     (λ c κs. search needs)
+    returns
     (λ c. search needs)
     sub-lengths
     part-lengths-start
     part-lengths-end
     (λ c κs. search needs)
-    returns
     returns-2)

@@ -27,11 +27,11 @@ open-spec =
     (λ c κs. search needs)
     (λ c. search needs)
     (λ c κs. search needs)
+    returns
     (λ c. search needs)
     sub-open
     part-open-start
     part-open-end
     (λ c κs. search needs)
     (λ c κs. search needs)
-    returns
     returns-2)

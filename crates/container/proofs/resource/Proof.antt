@@ -28,10 +28,10 @@ resource-spec =
     (λ c κs. search needs)
     (λ c. search needs)
     (λ c κs. search needs)
+    returns
     (λ c. search needs)
     sub-resource
     part-resource-start
     part-resource-end
     (λ c κs. search needs)
-    returns
     returns-2)

@@ -28,10 +28,10 @@ runtime-info-spec =
     (λ c κs. search needs)
     (λ c. search needs)
     (λ c κs. search needs)
+    returns
     (λ c. search needs)
     sub-runtime-info
     part-runtime-info-start
     part-runtime-info-end
     (λ c κs. search needs)
-    returns
     returns-2)

@@ -30,11 +30,11 @@ section-span-spec =
     (λ c κs. search needs)
     (λ c. search needs)
     (λ c κs. search needs)
+    returns
     (λ c. search needs)
     sub-section-span
     part-section-span-start
     part-section-span-end
     (λ c κs. search needs)
     moved-requires
-    returns
     returns-2)

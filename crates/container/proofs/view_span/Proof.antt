@@ -30,11 +30,11 @@ view-span-spec =
     (λ c κs. search needs)
     (λ c. search needs)
     (λ c κs. search needs)
+    returns
     (λ c. search needs)
     sub-view-span
     part-view-span-start
     part-view-span-end
     (λ c κs. search needs)
     moved-requires
-    returns
     returns-2)

@@ -15,8 +15,8 @@ add-end c = omega (arith, part-short _ _ _ (c .before .before .part .ensures) (c
 part-read-end : tie.Need-part-read-end
 part-read-end c = omega (arith, part-fits _ _ _ (c .before .before .part .ensures) (c .enum-told .given .1))
 
-add-t29 : tie.Need-add-t29
-add-t29 c = omega (arith, bitcode-short _ _ (c .before .before .before .before .before .before .before .before .before .before .before .part .ensures) (c .before .before .before .before .before .before .before .before .before .enum-told .given .1) (c .before .before .before .before .before .before .before .read .ensures) (c .before .before .before .before .before .enum-told2 .given .1))
+add-t23 : tie.Need-add-t23
+add-t23 c = omega (arith, bitcode-short _ _ (c .before .before .before .before .before .before .before .before .before .before .before .part .ensures) (c .before .before .before .before .before .before .before .before .before .enum-told .given .1) (c .before .before .before .before .before .before .before .read .ensures) (c .before .before .before .before .before .enum-told2 .given .1))
 
 returns : tie.Need-returns
 returns c = c .refused .ensures ∙ part-refused _ _ (c .before .before .before .before .part .ensures) (c .before .before .v .given .1)
@@ -36,6 +36,7 @@ report-spec =
     (λ c κs. search needs)
     (λ c. search needs)
     (λ c κs. search needs)
+    returns
     (λ c. search needs)
     add-start
     add-end
@@ -45,10 +46,9 @@ report-spec =
     (λ c κs. search needs)
     (λ c. search needs)
     (λ c κs. search needs)
+    returns-2
     (λ c. search needs)
     (λ c κs. search needs)
     (λ c κs. search needs)
-    add-t29
-    returns
-    returns-2
+    add-t23
     returns-3)

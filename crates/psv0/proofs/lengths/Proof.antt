@@ -5,17 +5,17 @@ use borrow.Author.Needs.{needs}
 use Rattle.psv0.proofs.lengths.Statement.{statement}
 use Rattle.psv0.proofs.lengths.Tie as tie
 
-lengths-at-requires : tie.Need-lengths-at-requires
-lengths-at-requires c κs =
-    let s = c .before .before .before .before .before in
-    let l = c .before .before .before .locate in
-    lengths-short (reading (s .args .edition) (s .args .d .now) (l .result) (l .ensures) (c .before .enum-told .given .1))
-
 returns : tie.Need-returns
 returns c =
     let s = c .before .before .before .before .before .before in
     let l = c .before .before .before .before .locate in
     lengths-refused (s .args .edition) (s .args .d .now) (l .result) (l .ensures) _ _ (c .before .before .v .given .1) (c .refused-lengths .result) (c .refused-lengths .ensures)
+
+lengths-at-requires : tie.Need-lengths-at-requires
+lengths-at-requires c κs =
+    let s = c .before .before .before .before .before in
+    let l = c .before .before .before .locate in
+    lengths-short (reading (s .args .edition) (s .args .d .now) (l .result) (l .ensures) (c .before .enum-told .given .1))
 
 returns-2 : tie.Need-returns-2
 returns-2 c =
@@ -30,7 +30,7 @@ lengths-spec =
     (λ c κs. search needs)
     (λ c. search needs)
     (λ c κs. search needs)
+    returns
     (λ c. search needs)
     lengths-at-requires
-    returns
     returns-2)

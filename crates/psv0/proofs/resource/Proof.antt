@@ -4,17 +4,17 @@ use borrow.Author.Needs.{needs}
 use Rattle.psv0.proofs.resource.Statement.{statement}
 use Rattle.psv0.proofs.resource.Tie as tie
 
-resource-in-requires : tie.Need-resource-in-requires
-resource-in-requires c κs =
-    let s = c .before .before .before .before .before in
-    let l = c .before .before .before .locate in
-    reading (s .args .edition) (s .args .d .now) (l .result) (l .ensures) (c .before .enum-told .given .1)
-
 returns : tie.Need-returns
 returns c =
     let s = c .before .before .before .before .before .before in
     let l = c .before .before .before .before .locate in
     resource-refused (s .args .edition) (s .args .d .now) (l .result) (l .ensures) _ _ (c .before .before .v .given .1) (s .args .i) (c .refused-resource .result) (c .refused-resource .ensures)
+
+resource-in-requires : tie.Need-resource-in-requires
+resource-in-requires c κs =
+    let s = c .before .before .before .before .before in
+    let l = c .before .before .before .locate in
+    reading (s .args .edition) (s .args .d .now) (l .result) (l .ensures) (c .before .enum-told .given .1)
 
 returns-2 : tie.Need-returns-2
 returns-2 c =
@@ -29,7 +29,7 @@ resource-spec =
     (λ c κs. search needs)
     (λ c. search needs)
     (λ c κs. search needs)
+    returns
     (λ c. search needs)
     resource-in-requires
-    returns
     returns-2)

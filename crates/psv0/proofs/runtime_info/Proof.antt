@@ -3,17 +3,17 @@ use borrow.Author.Needs.{needs}
 use Rattle.psv0.proofs.runtime_info.Statement.{statement}
 use Rattle.psv0.proofs.runtime_info.Tie as tie
 
-info-in-requires : tie.Need-info-in-requires
-info-in-requires c κs =
-    let s = c .before .before .before .before .before in
-    let l = c .before .before .before .locate in
-    reading (s .args .edition) (s .args .d .now) (l .result) (l .ensures) (c .before .enum-told .given .1)
-
 returns : tie.Need-returns
 returns c =
     let s = c .before .before .before .before .before .before in
     let l = c .before .before .before .before .locate in
     info-refused (s .args .edition) (s .args .d .now) (l .result) (l .ensures) _ _ (c .before .before .v .given .1) (c .refused-info .result) (c .refused-info .ensures)
+
+info-in-requires : tie.Need-info-in-requires
+info-in-requires c κs =
+    let s = c .before .before .before .before .before in
+    let l = c .before .before .before .locate in
+    reading (s .args .edition) (s .args .d .now) (l .result) (l .ensures) (c .before .enum-told .given .1)
 
 returns-2 : tie.Need-returns-2
 returns-2 c =
@@ -28,7 +28,7 @@ runtime-info-spec =
     (λ c κs. search needs)
     (λ c. search needs)
     (λ c κs. search needs)
+    returns
     (λ c. search needs)
     info-in-requires
-    returns
     returns-2)

@@ -35,6 +35,7 @@ element-spec =
     (λ c κs. search needs)
     (λ c. search needs)
     (λ c κs. search needs)
+    returns
     (λ c. search needs)
     add-start
     add-end
@@ -43,5 +44,4 @@ element-spec =
     part-element-end
     (λ c κs. search needs)
     moved-by-requires
-    returns
     returns-2)

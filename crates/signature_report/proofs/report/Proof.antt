@@ -37,6 +37,7 @@ report-spec =
     (λ c κs. search needs)
     (λ c. search needs)
     (λ c κs. search needs)
+    returns
     (λ c. search needs)
     add-start
     add-end
@@ -46,7 +47,6 @@ report-spec =
     (λ c κs. search needs)
     (λ c. search needs)
     (λ c κs. search needs)
-    (λ c. search needs)
-    returns
     returns-2
+    (λ c. search needs)
     returns-3)

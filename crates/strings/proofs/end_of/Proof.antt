@@ -1,51 +1,26 @@
-use Prim.Native.Nat.{_≤_}
-use mathlib.Core.Path.{_≡_}
 use native.Mathlib.Omega.{arith}
 use borrow.Author.Needs.{needs}
 use lib.ListN.{length}
-use Rattle.psv0_layout.specs.Position.{NoZero}
 use Rattle.psv0_layout.proofs.References.{noZero-begin, lastZero-none}
-use Rattle.psv0_layout.proofs.Judgements.{zero-found, zero-sought}
+use Rattle.psv0_layout.proofs.Judgements.{zero-found}
 use Rattle.strings.proofs.end_of.Statement.{statement}
 use Rattle.strings.proofs.end_of.Tie as tie
 
-abbrev Inv-loop : tie.InvT-loop
-Inv-loop t i₀ i = (i ≤ length t) × NoZero t i (length t)
+returns : tie.Need-returns
+returns c = lastZero-none _ (λ j a b e. omega (arith, c .if1 .taken))
 
-abbrev μ-loop : tie.MeasureT-loop
-μ-loop t i₀ i = i
-
-loop-holds : tie.Need-loop-holds Inv-loop μ-loop
-loop-holds c = (search needs, noZero-begin (c .args .t .now) _)
-
-returns : tie.Need-returns Inv-loop μ-loop
-returns c =
-    let l = c .before .before .before .loop in
-    zero-found _ _ (c .before .before .loop-test .taken) (l .inv .1) (l .inv .0) (c .if1 .taken)
-
-loop-again : tie.Need-loop-again Inv-loop μ-loop
-loop-again c =
-    let l = c .before .before .before .loop in
-    let t = c .before .before .before .before .args .t .now in
-    (search needs, zero-sought t _ (c .before .before .loop-test .taken) (l .inv .1) (c .if1 .left))
-
-returns-2 : tie.Need-returns-2 Inv-loop μ-loop
+returns-2 : tie.Need-returns-2
 returns-2 c =
-    let l = c .before .loop in
-    let e : l .i ≡ 0 = omega (arith, c .loop-test .left) in
-    lastZero-none _ (rw e at (l .inv .1))
+    let t = c .before .before .before .before .args .t .now in
+    zero-found t (length t) (omega arith) (noZero-begin t _) (omega arith) (c .if2 .taken)
 
 pub end-of-spec : {M : Type 1} → statement M
 end-of-spec =
     tie.close
     (tie.spec
-    Inv-loop
-    μ-loop
-    loop-holds
-    (λ c. search needs)
-    (λ c. search needs)
     returns
     (λ c. search needs)
     (λ c. search needs)
-    loop-again
-    returns-2)
+    returns-2
+    (λ c κs. search needs)
+    (λ c. search needs))

@@ -1,49 +1,51 @@
-use Prim.Native.Nat.{_+_, _-_, _≤_}
-use mathlib.Core.Path.{_≡_}
+use mathlib.Core.Logic.{inr, ⊎-elim}
 use native.Mathlib.Omega.{arith}
 use borrow.Author.Needs.{needs}
-use lib.ListN.{length}
-use Rattle.psv0_layout.specs.Reference.{stringAt}
-use Rattle.strings.proofs.Compared.{length-stops, length-goes, length-past}
+use Rattle.psv0_layout.proofs.References.{noZero-join, string-past, string-stops}
+use Rattle.strings.proofs.Compared.{string-length}
 use Rattle.strings.proofs.len_at.Statement.{statement}
 use Rattle.strings.proofs.len_at.Tie as tie
 
--- what is counted and what is still ahead
-abbrev Inv-loop : tie.InvT-loop
-Inv-loop t o n₀ i₀ n i = (n ≤ i) × (n + length (stringAt t i) ≡ length (stringAt t o))
-
-abbrev μ-loop : tie.MeasureT-loop
-μ-loop t o n₀ i₀ n i = length t - i
-
-loop-holds : tie.Need-loop-holds Inv-loop μ-loop
-loop-holds c = (omega arith, omega arith)
-
-returns : tie.Need-returns Inv-loop μ-loop
+returns : tie.Need-returns
 returns c =
-    let l = c .before .before .before in
-    omega (arith, l .loop .inv .1, length-stops (l .before .args .t .now) (l .loop .i) (c .if1 .taken))
+    let a = c .before .before .args in
+    rw (string-stops (a .t .now) (a .o) (string-past (a .t .now) (a .o) (c .if1 .taken)))
 
-loop-again : tie.Need-loop-again Inv-loop μ-loop
-loop-again c =
-    let l = c .before .before .before in
-    (omega arith, omega (arith, l .loop .inv .1, length-goes (l .before .args .t .now) (l .loop .i) (c .if1 .left)))
-
-returns-2 : tie.Need-returns-2 Inv-loop μ-loop
+returns-2 : tie.Need-returns-2
 returns-2 c =
-    let l = c .before in
-    omega (arith, l .loop .inv .1, length-past (l .before .args .t .now) (l .loop .i) (omega (arith, c .loop-test .left)))
+    let a = c .before .before .before .before .args in
+    let r = c .first-zero .ensures in
+    string-length (a .t .now) (a .o) _ (r .0) (r .2) (r .3)
+
+returns-3 : tie.Need-returns-3
+returns-3 c =
+    let a = c .before .before .before .before .before .args in
+    let r = c .before .first-zero2 .ensures in
+    string-length (a .t .now) (a .o) _ (r .0) (r .2) (⊎-elim (λ q. absurd (omega arith)) inr (r .3))
+
+returns-4 : tie.Need-returns-4
+returns-4 c =
+    let n = c .before .before .before in
+    let a = n .before .before .before .before .args in
+    let b = c .before .past-blocks in
+    let r = c .first-zero3 .ensures in
+    let near = noZero-join (a .t .now) (a .o) (n .first-zero2 .result) (b .result) (n .first-zero2 .ensures .2) (b .ensures .2) in
+    string-length (a .t .now) (a .o) _ (omega arith) (noZero-join (a .t .now) (a .o) (b .result) _ near (r .2)) (r .3)
 
 pub len-at-spec : {M : Type 1} → statement M
 len-at-spec =
     tie.close
     (tie.spec
-    Inv-loop
-    μ-loop
-    loop-holds
-    (λ c. search needs)
     returns
     (λ c. search needs)
+    (λ c κs. search needs)
     (λ c. search needs)
+    returns-2
     (λ c. search needs)
-    loop-again
-    returns-2)
+    (λ c κs. search needs)
+    (λ c. search needs)
+    returns-3
+    (λ c κs. search needs)
+    (λ c κs. search needs)
+    (λ c. search needs)
+    returns-4)
