@@ -14,9 +14,10 @@ use borrow.Author.Tests.{lt-ltb, le-ltb, ltb-true, ltb-false, eq-eqb, ne-eqb, le
 use Rattle.wire.specs.Number.{u32At}
 use Rattle.wire.specs.Search.{first}
 use Rattle.wire.specs.Verdict.{each}
+use Rattle.wire.specs.declared.Verdict.{Verdict}
 use Rattle.wire.specs.declared.Verdict.the-variants.{Accepted, Refused}
 use Rattle.wire.proofs.Searches.{first-agree, first-below, first-at, first-is, first-none}
-use Rattle.wire.proofs.Verdicts.{checked, check-fails, each-cong}
+use Rattle.wire.proofs.Verdicts.{checked, check-fails, each-none, each-stop, each-next, each-cong}
 use Rattle.part_table_layout.specs.Table.{countOf, offsetAt, nameAt, sizeAt, endAt, earliest, partJudged, hasName, nameJudged, filled}
 use Rattle.part_table_layout.proofs.Filled.{filled-below}
 
@@ -27,14 +28,6 @@ offset-is b k h = h
 pub name-is : (b : List ℕ) (k : ℕ) {s x : ℕ} → s ≡ offsetAt b k → x ≡ u32At b s → x ≡ nameAt b k
 unfolding nameAt
 name-is b k hs h = rw hs at h
-
-pub table-end : (b : List ℕ) {n : ℕ} → n ≡ countOf b → 32 + 4 * n ≡ earliest b 0
-unfolding earliest
-table-end b h = rw h
-
-pub next-earliest : (b : List ℕ) (k : ℕ) {s z : ℕ} → s ≡ offsetAt b k → z ≡ sizeAt b k → s + 8 + z ≡ earliest b (k + 1)
-unfolding earliest endAt
-next-earliest b k hs hz = rw (add-one, hs, hz)
 
 -- 8 of part k, which starts at s where end is the earliest place
 module _ (b : List ℕ) (k : ℕ) {s end : ℕ} (hs : s ≡ offsetAt b k) (he : end ≡ earliest b k) where
@@ -62,6 +55,25 @@ module _ (b : List ℕ) (k : ℕ) {s end : ℕ} (hs : s ≡ offsetAt b k) (he : 
     pub fits : end ≤ s → s + 8 ≤ length b → s + 8 + z ≤ length b → partJudged b k ≡ Accepted
     unfolding partJudged
     fits h g f = checked _ _ _ (simp (le-leb _ _ (rw (he, hs) at h), le-leb _ _ (rw hs at g), le-leb _ _ (rw end-at at f)))
+
+-- 8 of every part in turn: the walk over n parts has come to part i, which may start at end
+pub record Walked (b : List ℕ) (n i end : ℕ) : Type 0 where
+  pub within : i ≤ n
+  pub fine : each (partJudged b) i ≡ Accepted
+  pub next : end ≡ earliest b i
+
+pub walk-begin : (b : List ℕ) {n : ℕ} → n ≡ countOf b → Walked b n 0 (32 + 4 * n)
+unfolding earliest
+walk-begin b h = record { within = omega arith; fine = each-none _; next = rw h }
+
+module _ (b : List ℕ) {n i end : ℕ} (w : Walked b n i end) (l : i < n) {v : Verdict} (hv : v ≡ partJudged b i) where
+  pub walk-on : v ≡ Accepted → {s z : ℕ} → s ≡ offsetAt b i → z ≡ sizeAt b i → Walked b n (i + 1) (s + 8 + z)
+  unfolding earliest endAt
+  walk-on e hs hz =
+      record { within = omega arith; fine = rw add-one (each-next _ _ (w .fine) (sym hv ∙ e)); next = rw (add-one, hs, hz) }
+
+  pub walk-stops : {m p : ℕ} → v ≡ Refused m p → each (partJudged b) n ≡ Refused m p
+  walk-stops e = each-stop _ _ _ _ _ l (w .fine) (sym hv ∙ e)
 
 -- 9 of name k, where the search for an equal name among the k before it came to r
 module _ (names : ℕ → ℕ) (k : ℕ) {r : ℕ} (h : r ≡ first (hasName names (names k)) k) where

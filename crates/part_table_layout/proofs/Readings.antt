@@ -12,7 +12,7 @@ use Rattle.wire.specs.declared.Verdict.the-variants.{Accepted, Refused}
 use Rattle.wire.proofs.Verdicts.{each-done, stop-then, pass-then}
 use Rattle.part_table_layout.specs.Table.{countOf, offsetAt, nameAt, sizeAt, partJudged, nameJudged, headerJudged, partsJudged, tableJudged, filled, refusedTable, acceptedTable, tableIf, tableOf}
 use Rattle.part_table_layout.specs.declared.Table.{Table}
-use Rattle.part_table_layout.proofs.Judged.{names-agree}
+use Rattle.part_table_layout.proofs.Judged.{Walked, names-agree}
 
 -- the table with the entries of the first i parts
 abbrev pub tableTo : List ℕ → ℕ → Table
@@ -31,10 +31,10 @@ module _ (b : List ℕ) {t : Table} (i : ℕ) (ht : t ≡ tableTo b i) where
       ≡ tableTo b (i + 1)
   entry-more hx hs hz = rw (ht, hx, hs, hz, add-one)
 
-  pub all-entries : {n : ℕ} → n ≡ countOf b → i ≤ n → n ≤ i → each (partJudged b) i ≡ Accepted → t ≡ tableIf (each (partJudged b) n) b
-  all-entries h l g e =
-      let q : i ≡ countOf b = omega arith in
-      rw (each-done _ l g e, ht, q)
+  pub all-entries : {n end : ℕ} → n ≡ countOf b → Walked b n i end → n ≤ i → t ≡ tableIf (each (partJudged b) n) b
+  all-entries h w g =
+      let q : i ≡ countOf b = omega (arith, w .within) in
+      rw (each-done _ (w .within) g (w .fine), ht, q)
 
 verdict-if : (v : Verdict) (b : List ℕ) → tableIf v b .verdict ≡ v
 verdict-if Accepted b = refl

@@ -18,7 +18,7 @@ use Rattle.part_table_layout.specs.declared.Found.{Found}
 use Rattle.part_table_layout.specs.declared.Found.the-variants.{At, Nothing}
 use Rattle.part_table_layout.specs.declared.Part.{Part}
 use Rattle.part_table_layout.specs.declared.ThreeParts.{ThreeParts}
-use Rattle.part_table_layout.proofs.Judged.{names-agree}
+use Rattle.part_table_layout.proofs.Judged.{Walked, names-agree}
 use Rattle.part_table_layout.proofs.Lookups.{found-in-table}
 
 -- ---- a part by its name, among the names that were read
@@ -48,10 +48,11 @@ module _ (b : List ℕ) {n : ℕ} (hn : n ≡ countOf b) {v : Verdict} where
   unfolding partsJudged
   eight-refused e h = e ∙ stop-then _ (each (nameJudged (nameAt b)) (countOf b)) _ _ (rw hn at h)
 
-  pub nine-is : {i : ℕ} {names : List ℕ} → n ≤ 96 → i ≤ n → n ≤ i → each (partJudged b) i ≡ Accepted → names ≡ filled (nameAt b) i
+  pub nine-is : {i end : ℕ} {names : List ℕ} → n ≤ 96 → Walked b n i end → n ≤ i → names ≡ filled (nameAt b) i
       → v ≡ each (nameJudged (λ k. getD names k 0)) n → v ≡ partsJudged b
   unfolding partsJudged
-  nine-is l li ni e8 hx hv = pass-then _ _ _ (rw hn at (each-done _ li ni e8)) (hv ∙ rw (all-names b li ni hx) (names-agree b l ∙ rw hn))
+  nine-is l w ni hx hv =
+      pass-then _ _ _ (rw hn at (each-done _ (w .within) ni (w .fine))) (hv ∙ rw (all-names b (w .within) ni hx) (names-agree b l ∙ rw hn))
 
 -- ---- what is shown under the verdict v
 module _ (b : List ℕ) (x y z : ℕ) {v : Verdict} where

@@ -8,7 +8,7 @@ use native.Mathlib.Omega.{arith}
 use lib.Dec.{leb, ltb, eqb}
 use lib.ListN.{length, getD, take, drop, List·getD-eq-default}
 use lib.Seq.{getD-take, take-take}
-use borrow.Author.Tests.{lt-ltb, le-ltb, ltb-true, ltb-false, le-leb, lt-leb, leb-true}
+use borrow.Author.Tests.{lt-ltb, le-ltb, le-leb, lt-leb, leb-true}
 use Rattle.constants.specs.Edition.{sizeOf}
 use Rattle.wire.specs.Number.{u32At}
 use Rattle.wire.specs.Verdict.{_then_, check}
@@ -200,29 +200,26 @@ module _ (er : ℕ) (d : List ℕ) (i : ℕ) where
       λ f. ap (λ x. setIf (ltb f 13) (number (getD (elementFields x) f 0))) q ∙ of-element _ h l in
       λ j. record { verdict = found-field (shownAt er d (elementField i 0)) (u32At r 0) (ap fieldOf (g 0)) j; element = elementOf (λ f. fieldOf (g f j)) }
 
-  -- a query for element i that refuses though the opening accepts: there is no such element, and nothing is shown
-  module _ {n p : ℕ} (e : Refused n p ≡ queried Accepted (shownAt er d (elementField i 0))) where
-    element-none : 1 ≤ er → sections d .elements .count ≤ i
-    unfolding elementAnswerOf
-    element-none g = go (ltb i (sections d .elements .count)) refl
-      where
-        go : (t : Bool) → ltb i (sections d .elements .count) ≡ t → sections d .elements .count ≤ i
-        go false q = ltb-false i _ q
-        go true q =
-            let v : Accepted ≡ queried Accepted (shownAt er d (elementField i 0)) = ap (λ x. x .verdict) (element-there _ g (ltb-true i _ q) refl) in
-            absurd (let z : _≡_ {A = ℕ} 0 1 = cc in omega arith)
+-- ---- an element that a query refuses to show: nothing of it is shown, whether the opening refuses or there is no such element
+-- values under the two tests of an element: where a query for the first refuses, none is set
+under-tests : (s t : Bool) (x : ℕ → Value) {m n p : ℕ} → number m ≡ x 0 → Refused n p ≡ queried Accepted (setIf s (setIf t (x 0)))
+    → (f : ℕ) → unset ≡ setIf s (setIf t (x f))
+unfolding queried _then_ check
+under-tests false t x g e f = refl
+under-tests true false x g e f = refl
+under-tests true true x g e f = absurd (let h = rw (← g) at e in let z : _≡_ {A = ℕ} 0 1 = cc in omega arith)
 
-    element-unset : refusedElement n p ≡ elementAnswerOf Accepted (shownAt er d) i
-    unfolding elementAnswerOf
-    element-unset =
-        let v : Refused 26 0 ≡ queried Accepted (shownAt er d (elementField i 0)) = ap (λ x. x .verdict) (no-element element-none) in
-        let a : n ≡ 26 = cc in
-        let b : p ≡ 0 = cc in
-        ap₂ refusedElement a b ∙ no-element element-none
+element-unset : (o : Verdict) (er : ℕ) (d : List ℕ) (i : ℕ) {n p : ℕ} → Refused n p ≡ queried o (beside o (shownAt er d (elementField i 0)))
+    → (f : ℕ) → unset ≡ beside o (shownAt er d (elementField i f))
+unfolding shownAt value
+element-unset Accepted er d i v f =
+    let b = seen 1 (sections d) .body in
+    under-tests (leb 1 er) (ltb i (length (b .elements))) (λ k. setIf (ltb k 13) (number (getD (elementFields (getD (b .elements) i [])) k 0))) refl v f
+element-unset (Refused m q) er d i v f = refl
 
 pub element-hidden : (o : Verdict) (er : ℕ) (d : List ℕ) (i : ℕ) {a : ElementAnswer} {n p : ℕ} → a ≡ elementAnswerOf o (λ q. beside o (shownAt er d q)) i
     → a .verdict ≡ Refused n p → refusedElement n p ≡ elementAnswerOf o (λ q. beside o (shownAt er d q)) i
-unfolding elementAnswerOf queried _then_
-element-hidden Accepted er d i h e = element-unset er d i (sym e ∙ ap (λ x. x .verdict) h)
-element-hidden (Refused m q) er d i h e =
-    ap (λ v. elementAnswerOf v (λ x. beside v (shownAt er d x)) i) (sym e ∙ ap (λ x. x .verdict) h)
+unfolding elementAnswerOf
+element-hidden o er d i h e =
+    let v = sym e ∙ ap (λ x. x .verdict) h in
+    λ j. record { verdict = v j; element = elementOf (λ f. fieldOf (element-unset o er d i v f j)) }
