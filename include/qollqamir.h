@@ -331,7 +331,12 @@ bool qollqamir_known(const uint8_t *name);
 /* Opens a container at an edition: 25, 1 to 9, 10, 11, 12 to 24. */
 qollqamir_opening qollqamir_open(const uint8_t *bytes, size_t len, size_t edition);
 
-/* The same at the edition that is read where none is named, 1. */
+/* The edition that is read where none is named: the newest. */
+enum { QOLLQAMIR_DEFAULT_EDITION = 3 };
+
+/* Opens a container where no edition is named: as qollqamir_open at QOLLQAMIR_DEFAULT_EDITION, which the queries on its bytes then take.
+   Edition 3 alone gives 24: the file is of edition 3 and the reference of its entry name isn't good. To read such a file without its entry
+   name, name an older edition, qollqamir_open(bytes, len, 2), in the queries too; every older one accepts it. */
 qollqamir_opening qollqamir_open_default(const uint8_t *bytes, size_t len);
 
 /* Queries on a container's bytes at an edition. Each gives what qollqamir_open gives, then 26 where what is asked for isn't there or is

@@ -1,5 +1,11 @@
 #!/usr/bin/env python3
-"""inspect.py PROGRAM: runs the small program on made containers and compares what it prints with what documents 01 and 02 say."""
+"""inspect.py PROGRAM: runs the small program on made containers and compares what it prints with what documents 01 and 02 say.
+
+inspect.py PROGRAM --beside OTHER SHOW FOLDER..: runs another such program beside it, the independent reader's or that of an earlier
+state, on these containers and on every file of the folders; both must print the same bytes. By SHOW, a `show` program, it counts the files
+that edition 3 refuses with 24: of these `accepted 3 N` must be printed, and one at least must come."""
+import collections
+import pathlib
 import subprocess
 import sys
 
@@ -50,15 +56,49 @@ CASES = [
 ]
 
 
-def main():
+def printed(program, data):
+    return subprocess.run([program], input=data, capture_output=True, check=True).stdout
+
+
+def said():
+    """The program's own cases."""
     assert len(M) == 92 and len(with_psv0(psv0())) == 136 and len(LONGEST) == 65536
     wrong = 0
-    for label, data, said in CASES:
-        got = subprocess.run([sys.argv[1]], input=data, capture_output=True, check=True).stdout.decode()
-        if got != said:
+    for label, data, text in CASES:
+        got = printed(sys.argv[1], data).decode()
+        if got != text:
             wrong += 1
-            print(f"inspect: {label}: printed {got!r}, and documents 01 and 02 say {said!r}")
+            print(f"inspect: {label}: printed {got!r}, and documents 01 and 02 say {text!r}")
     print(f"inspect: {len(CASES) - wrong} of {len(CASES)} containers print what documents 01 and 02 say")
+    return wrong
+
+
+def beside(program, other, show, folders):
+    """What two programs print of the cases and of files."""
+    files = sorted(file for folder in folders for file in pathlib.Path(folder).iterdir())
+    wrong, newest, answers = 0, 0, collections.Counter()
+    for label, data in [(label, data) for label, data, _ in CASES] + [(file, file.read_bytes()) for file in files]:
+        got = printed(program, data)
+        if got != printed(other, data):
+            wrong += 1
+            print(f"inspect: {label}: {program} and {other} print different texts")
+        words = got.split()
+        answers[b" ".join(words[: 1 if words[0] == b"accepted" else 2]).decode()] += 1
+        if isinstance(label, pathlib.Path) and subprocess.run([show, "3", label], capture_output=True).stdout == b"refused 24 0\n":
+            newest += 1
+            if words[:2] != [b"accepted", b"3"]:
+                wrong += 1
+                print(f"inspect: {label}: edition 3 gives 24, and {got!r} is printed")
+    told = ", ".join(f"{answers[answer]} {answer}" for answer in sorted(answers))
+    print(f"inspect: {answers.total()} containers beside {other}, {wrong} differ; {newest} that edition 3 refuses with 24; {told}")
+    return wrong if newest else 1
+
+
+def main():
+    if sys.argv[2:3] == ["--beside"]:
+        wrong = beside(sys.argv[1], sys.argv[3], sys.argv[4], sys.argv[5:])
+    else:
+        wrong = said()
     sys.exit(1 if wrong else 0)
 
 

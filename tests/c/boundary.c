@@ -261,7 +261,8 @@ static void test_box_c(void) {
     }
     qollqamir_opening opening = qollqamir_open_default(c, len);
     ACCEPTED(opening);
-    CHECK(opening.parts == 2 && opening.file_edition == 3 && opening.edition_read == 1);
+    CHECK(opening.parts == 2 && opening.file_edition == 3 && opening.edition_read == 3 && QOLLQAMIR_DEFAULT_EDITION == 3);
+    CHECK(shows(c, qollqamir_view(c, len, QOLLQAMIR_DEFAULT_EDITION, QOLLQAMIR_ENTRY_NAME, 0), "main", 4));
 
     qollqamir_info info = qollqamir_runtime_info(c, len, 3);
     ACCEPTED(info);
@@ -317,7 +318,14 @@ static void test_box_c(void) {
     len = shader(c, psv0, box_c(psv0, 52, 8));
     REFUSED(qollqamir_open(c, len, 3), 24, 0);
     REFUSED(qollqamir_view(c, len, 3, QOLLQAMIR_ENTRY_NAME, 0), 24, 0);
-    ACCEPTED(qollqamir_open(c, len, 2));
+    for (size_t edition = 0; edition <= 2; edition++) {
+        opening = qollqamir_open(c, len, edition);
+        ACCEPTED(opening);
+        CHECK(opening.parts == 2 && opening.file_edition == 3 && opening.edition_read == edition);
+    }
+    opening = qollqamir_open_default(c, len);
+    REFUSED(opening, 24, 0);
+    CHECK(opening.parts == 0 && opening.file_edition == 0 && opening.edition_read == 0);
     len = shader(c, psv0, box_c(psv0, 56, 1));
     CHECK(len == 140);
     CHECK(shows(c, qollqamir_view(c, len, 3, QOLLQAMIR_ENTRY_NAME, 0), "main", 4));

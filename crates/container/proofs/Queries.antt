@@ -32,6 +32,7 @@ use Rattle.psv0_layout.proofs.Positions.{part-part}
 use Rattle.container_layout.specs.Container.{psv0, isThere, startFound, sizeFound, dataFound, psvOf, beforePsv, containerJudged, containerAnswered, containerPart}
 use Rattle.container_layout.proofs.Containers.{before-told, opens-alone, shows-alone, refuses-before, shows-nothing}
 use Rattle.container.specs.Opened.{psvPartOf, refusedOpening, openingIf, movedSpan, partBeside, containerOpeningOf}
+use Rattle.container.specs.declared.ContainerOpening.{ContainerOpening}
 use Rattle.container.specs.declared.PsvPart.{PsvPart}
 
 pub end-less : (s l : ℕ) → s + l - s ≡ l
@@ -201,3 +202,22 @@ part-is k b hp a {d} e {v} hv x hq =
 pub no-edition-part : (k : ℕ) (b : List ℕ) (x : ℕ) → 3 < k → refusedPart (Refused 25 0) ≡ containerPart k b x
 unfolding containerPart containerJudged beforePsv check _then_
 no-edition-part k b x h = simp (lt-leb _ _ h)
+
+-- ---- what an opening shows
+verdict-if : (v : Verdict) (n f e : ℕ) → openingIf v n f e .verdict ≡ v
+verdict-if Accepted n f e = refl
+verdict-if (Refused m p) n f e = refl
+
+module _ (k : ℕ) (b : List ℕ) {o : ContainerOpening} (e : o ≡ containerOpeningOf k b) where
+  pub opening-verdict : o .verdict ≡ containerJudged k b
+  unfolding containerOpeningOf
+  opening-verdict = ap (λ (q : ContainerOpening). q .verdict) e ∙ verdict-if (containerJudged k b) _ _ _
+
+  module _ (h : o .verdict ≡ Accepted) where
+    pub opening-parts : o .parts ≡ countOf b
+    unfolding containerOpeningOf
+    opening-parts = let a = sym opening-verdict ∙ h in rw (e, a)
+
+    pub opening-edition : o .«file_edition» ≡ fileEdition (u32At (psvOf b) 0)
+    unfolding containerOpeningOf
+    opening-edition = let a = sym opening-verdict ∙ h in rw (e, a)

@@ -140,7 +140,7 @@ pub fn open(b: &[u8], edition: usize) -> ContainerOpening
 pub fn open_default(b: &[u8]) -> ContainerOpening
     ensures { λ r. ⌜ r ≡ containerOpeningOf defaultEdition (now (b .entry)) ⌝ }
 {
-    open(b, 1)
+    open(b, 3)
 }
 
 // The fields of the runtime record. The accepted answer has a name of its own, so that a refusal is written in place and not copied.

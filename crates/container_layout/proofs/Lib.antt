@@ -1,5 +1,6 @@
 pub mod Boxes
 pub mod Containers
+pub mod DefaultEdition
 pub mod Demand3
 pub mod Parts
 pub mod Reports

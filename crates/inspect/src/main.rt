@@ -1,44 +1,12 @@
 // Reads a container of at most 65,536 bytes from standard input and prints its part table, or its refusal.
-use printing::number;
-use printing::text;
-use wire::Verdict;
-
-fn table(b: &[u8]) {
-    let t = part_table::read(b);
-    let n = t.count;
-    let mut i = 0;
-    while i < 96 {
-        if i < n {
-            printing::part(t.names[i], t.offsets[i], t.sizes[i]);
-        }
-        i += 1;
-    }
-}
-
-fn report(b: &[u8]) {
-    let o = container::open_default(b);
-    let v = o.verdict;
-    match v {
-        Verdict::Accepted => {
-            text(b"accepted ");
-            number(o.file_edition);
-            text(b" ");
-            number(o.parts);
-            text(b"\n");
-            table(b);
-        }
-        Verdict::Refused(n, p) => printing::refusal(n, p),
-    }
-}
+use libc::STDOUT_FILENO;
 
 fn main() {
-    let mut buffer = io::large_buffer();
+    // One byte more than is read of a container tells a longer input.
+    let mut buffer = [0u8; 65537];
     let n = io::read_full(0, &mut buffer);
-    let mut more = [0u8; 1];
-    let extra = io::read_full(0, &mut more);
-    if 0 < extra {
-        text(b"too long\n");
-        return;
-    }
-    report(&buffer[..n]);
+    let text = inspect_text::text(&buffer[..n]);
+    let bytes = text.bytes;
+    let len = text.len;
+    io::write_all(STDOUT_FILENO, &bytes[..len]);
 }

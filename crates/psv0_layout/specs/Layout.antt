@@ -101,9 +101,9 @@ module _ (d : List ℕ) where
 abbrev pub editionRead : ℕ → List ℕ → ℕ
 editionRead k d = min k (fileEdition (u32At d 0))
 
--- "An opening that names no edition reads as edition 1." This is the only place that says so.
+-- "An opening that names no edition now reads as edition 3" (document 02, Ask 5). This is the only place that says so.
 abbrev pub defaultEdition : ℕ
-defaultEdition = 1
+defaultEdition = 3
 
 -- ---- what a reading at an edition looks at: the runtime record up to the edition's size ("Bytes of the record past that edition
 -- are ignored"), of each record the fields that the edition knows, and sections 3 to 6 from edition 1 on

@@ -1,7 +1,7 @@
 -- Spans and signatures that cross the boundary.
 -- Assumes nothing.
 use Prim.Native.Nat.{ℕ, _≤_, _<_}
-use mathlib.Core.Path.{_≡_, refl, _∙_, ap}
+use mathlib.Core.Path.{_≡_, _∙_, ap}
 use mathlib.Core.Bool.{true}
 use mathlib.Core.List.{List}
 use native.Mathlib.Omega.{arith}
@@ -9,7 +9,8 @@ use lib.Dec.{ltb}
 use borrow.Author.Tests.{lt-ltb, le-ltb}
 use Rattle.wire.specs.declared.Verdict.{Verdict}
 use Rattle.wire.specs.declared.Verdict.the-variants.{Accepted, Refused}
-use Rattle.container.specs.Opened.{openingIf, containerOpeningOf}
+use Rattle.container.specs.Opened.{containerOpeningOf}
+use Rattle.container.proofs.Queries.{opening-verdict}
 use Rattle.container.specs.declared.ContainerOpening.{ContainerOpening}
 use Rattle.container_layout.specs.Container.{containerJudged}
 use Rattle.psv0_layout.specs.Answers.{bytesOf, bytesBeside, sectionOf, SpanShows}
@@ -45,20 +46,12 @@ module _ (d : List ℕ) (o : Verdict) (er : ℕ) (a : List ℕ) (x : Value) {n :
   some-section h g e = rw (lt-ltb n 6 (omega arith)) (crossed g e)
 
 -- ---- a signature part by its number n: no part where it is above 2
-verdict-if : (v : Verdict) (n f e : ℕ) → openingIf v n f e .verdict ≡ v
-verdict-if Accepted n f e = refl
-verdict-if (Refused m p) n f e = refl
-
 module _ (k : ℕ) (b : List ℕ) {o : ContainerOpening} (ho : o ≡ containerOpeningOf k b) where
-  opening-is : o .verdict ≡ containerJudged k b
-  unfolding containerOpeningOf
-  opening-is = ap (λ (q : ContainerOpening). q .verdict) ho ∙ verdict-if (containerJudged k b) _ _ _
-
   pub opening-refused : {n p : ℕ} → o .verdict ≡ Refused n p → refusedElement n p ≡ noPart (containerJudged k b)
-  opening-refused e = rw (← opening-is, e)
+  opening-refused e = rw (← opening-verdict k b ho, e)
 
   pub opening-accepted : o .verdict ≡ Accepted → refusedElement 26 0 ≡ noPart (containerJudged k b)
-  opening-accepted e = rw (← opening-is, e)
+  opening-accepted e = rw (← opening-verdict k b ho, e)
 
 module _ (k : ℕ) (b : List ℕ) {n : ℕ} where
   module _ (h : 2 < n) {a : SignatureAnswer} (ha : a ≡ noPart (containerJudged k b)) {v : CVerdict} (hv : v ≡ cVerdict (a .verdict)) where

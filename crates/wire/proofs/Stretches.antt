@@ -7,7 +7,7 @@ use mathlib.Core.List.{List, [], _∷_, _++_, append-assoc, append-nil}
 use native.Mathlib.Numerals.{add-one}
 use native.Mathlib.Nat.{zero-add}
 use native.Mathlib.Omega.{arith}
-use lib.ListN.{length, getD, take, drop, set, length-append, length-drop, drop-of-length-le}
+use lib.ListN.{length, getD, take, drop, set, length-append, length-drop, drop-of-length-le, take-append-drop}
 use lib.Seq.{take-at, drop-at, drop-drop, paste-suc, take-length, length-take-le}
 use lib.Dec.{eqb}
 use borrow.Author.Tests.{eq-eqb, ne-eqb, eqb-true}
@@ -46,6 +46,14 @@ module _ (o s : List ℕ) where
   copy-all i e q =
       let d : drop (length s) o ≡ [] = drop-of-length-le o {i = length s} (omega arith) in
       rw (q, take-length s, d, append-nil) (sym (copied-is e))
+
+-- the stretch as long as v at a place is lent, and v is copied over it
+pub lent-placed : (l v : List ℕ) (at : ℕ) {y : List ℕ} → at + length v ≤ length l → y ≡ copied (take (at + length v - at) (drop at l)) v
+    → take at l ++ (y ++ drop (at + length v - at) (drop at l)) ≡ placed l at v
+lent-placed l v at h q =
+    let k : at + length v - at ≡ length v = omega arith in
+    let n : length (take (length v) (drop at l)) ≡ length v = length-take-le (length v) (drop at l) (rw length-drop (omega arith)) in
+    rw (q, k, copied-is _ v n, drop-drop) (sym (placed-in l at v h))
 
 -- a slice that held o and holds x: f has been written up to the place e, and from there on it is as it was
 pub record Written (o f : List ℕ) (e : ℕ) (x : List ℕ) : Type 0 where
@@ -101,6 +109,22 @@ module _ {o f x : List ℕ} {e : ℕ} (w : Written o f e x) where
         long = rw length-append (omega arith);
         holds = q ∙ placed-in x e v g ∙ rw (front, ← drop-drop (length v) e x, rest, drop-drop, h, append-assoc);
       }
+
+-- bytes in front of others
+pub front-shown : (v l : List ℕ) → take (length v) (v ++ l) ≡ v
+front-shown v l = take-at v l (length v) refl
+
+-- bytes that are put in front, and bytes that are put one after the other: they are put as one
+pub placed-front : (l v : List ℕ) → length v ≤ length l → placed l 0 v ≡ v ++ drop (length v) l
+placed-front l v h = let g : 0 + length v ≤ length l = omega arith in placed-in l 0 v g ∙ rw zero-add
+
+pub placed-on : (l u v : List ℕ) (at e : ℕ) → at + length u ≡ e → e + length v ≤ length l → placed (placed l at u) e v ≡ placed l at (u ++ v)
+placed-on l u v at e q h =
+    let w : Written l (take at l) at l = record { long = length-take-le at l (omega arith); holds = sym (take-append-drop at l) } in
+    let x = written-number w u e q (omega arith) refl in
+    let y = written-number x v (e + length v) refl h refl in
+    let z = written-number w (u ++ v) (e + length v) (rw length-append (omega arith)) h refl in
+    y .holds ∙ ap (λ f. f ++ drop (e + length v) l) (append-assoc (take at l) u v) ∙ sym (z .holds)
 
 -- a stretch from the start was lent and came back as v
 pub front-written : (o v : List ℕ) (e : ℕ) → length v ≡ e → Written o v e (v ++ drop e o)

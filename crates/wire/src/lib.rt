@@ -122,3 +122,16 @@ pub fn copy(out: &mut [u8], src: &[u8])
         i += 1;
     }
 }
+
+// Puts bytes at a place. Where they do not fit, nothing changes.
+pub fn put(out: &mut [u8], at: usize, src: &[u8])
+    ensures { λ r. ⌜ now (out .exit) ≡ placed (now (out .entry)) at (now (src .entry)) ⌝ }
+{
+    let len = out.len();
+    let n = src.len();
+    if at <= len {
+        if n <= len - at {
+            copy(&mut out[at..at + n], src);
+        }
+    }
+}

@@ -38,6 +38,7 @@ pub(crate) use same;
 pub enum Call {
     Table,
     Open,
+    Default,
     Psv0,
     Query,
     Write,
@@ -58,9 +59,10 @@ pub enum Call {
 const REPORTED: &[u8] = &[1, 2, 3, 4, 5, 6, 7, 8, 9, 10, 11, 12, 13, 14, 15, 16, 17, 18, 19, 20, 21, 22, 23, 24, 25, 26, 43, 44, 45];
 
 /// The calls, and the numbers that each can give.
-pub const CALLS: [(&str, &[u8]); 16] = [
+pub const CALLS: [(&str, &[u8]); 17] = [
     ("table", &[1, 2, 3, 4, 5, 6, 7, 8, 9]),
     ("open", &[1, 2, 3, 4, 5, 6, 7, 8, 9, 10, 11, 12, 13, 14, 15, 16, 17, 18, 19, 20, 21, 22, 23, 24, 25]),
+    ("default", &[1, 2, 3, 4, 5, 6, 7, 8, 9, 10, 11, 12, 13, 14, 15, 16, 17, 18, 19, 20, 21, 22, 23, 24]),
     ("psv0", &[2, 12, 13, 14, 15, 16, 17, 18, 19, 20, 21, 22, 23, 24, 25]),
     ("query", &[26]),
     ("write", &[2, 15, 16, 17, 22, 23, 24, 25, 27, 28]),
@@ -97,8 +99,9 @@ macro_rules! seen {
 }
 
 seen! {
-    /// What no number tells: how the stages compared and where the bitcode of DXIL data alone ended; of signature data, why 26 was given,
-    /// where elements and names stood, and how names compared with PSV0's.
+    /// What no number tells: a file that edition 1 reads refused where none is named; how the stages compared and where the bitcode of
+    /// DXIL data alone ended; of signature data, why 26 was given, where elements and names stood, and how names compared with PSV0's.
+    NewestAlone: "24 where no edition is named and edition 1 accepts",
     Unset: "stages unset",
     Equal: "stages equal",
     Different: "stages different",
@@ -510,8 +513,13 @@ pub fn reading(random: &mut Random, reader: &Reader, bytes: &[u8], edition: usiz
     hits.note(reader.call, got.verdict);
     same!(bytes, got, opening_of(&expected), "{name} open {edition}");
     if matches!(reader.call, Call::Open) {
-        if edition == 1 {
-            same!(bytes, raw::open_default(bytes), got, "open_default");
+        if edition == reference::DEFAULT_EDITION {
+            let got = raw::open_default(bytes);
+            hits.note(Call::Default, got.verdict);
+            same!(bytes, got, opening_of(&expected), "open_default");
+            if got.verdict.number == 24 && raw::open(bytes, 1).verdict.number == 0 {
+                hits.saw(Seen::NewestAlone);
+            }
         }
         let parts = expected.as_ref().map(|opening| &opening.parts[..]).unwrap_or(&[]);
         for name in names(random, parts) {

@@ -104,8 +104,8 @@ fn report(seed: u64, case: &str, mismatch: Mismatch) -> ExitCode {
 /// Prints how often each number was given, and answers which of those that a call can give were not.
 fn summary(done: &Done) -> Vec<String> {
     let mut missed = Vec::new();
-    // Eight calls to a line.
-    for (calls, counts) in CALLS.chunks(8).zip(done.hits.counts.chunks(8)) {
+    // Nine calls to a line.
+    for (calls, counts) in CALLS.chunks(9).zip(done.hits.counts.chunks(9)) {
         print!("number  ");
         for (name, _) in calls {
             print!("{name:>12}");

@@ -41,8 +41,8 @@ pub mod raw {
 /// The edition of a reader or of what is written, 0 to 3; any other is refused with 25.
 pub type Edition = usize;
 
-/// The edition that [`Container::open_default`] reads as.
-pub const DEFAULT_EDITION: Edition = 1;
+/// The edition that [`Container::open_default`] reads as, since none is named: the newest.
+pub const DEFAULT_EDITION: Edition = 3;
 
 /// A refusal: a number of documents 01 and 02, and a place (a part or an element where the number has one, otherwise 0).
 #[derive(Clone, Copy, Debug, PartialEq, Eq, Hash)]
@@ -450,7 +450,21 @@ impl<'a> Container<'a> {
         Self::opened(bytes, edition, raw::open(bytes, edition))
     }
 
-    /// Opens a container at [`DEFAULT_EDITION`].
+    /// Opens a container where no edition is named: at [`DEFAULT_EDITION`], the newest.
+    ///
+    /// Edition 3 alone gives 24: the file is of edition 3 and the reference of its entry name isn't good. To read such a file without its
+    /// entry name, name an older edition; every older one accepts it.
+    ///
+    /// ```
+    /// # use qollqamir::{Container, Refusal};
+    /// fn with_or_without_entry_name(bytes: &[u8]) -> Result<Container<'_>, Refusal> {
+    ///     match Container::open_default(bytes) {
+    ///         Err(Refusal { number: 24, .. }) => Container::open(bytes, 2),
+    ///         opened => opened,
+    ///     }
+    /// }
+    /// # assert_eq!(with_or_without_entry_name(b"DXBC").unwrap_err().number, 1);
+    /// ```
     pub fn open_default(bytes: &'a [u8]) -> Result<Self, Refusal> {
         Self::opened(bytes, DEFAULT_EDITION, raw::open_default(bytes))
     }

@@ -104,13 +104,18 @@ fn box_c_has_an_entry_name() {
     assert_eq!(c.lengths(), Lengths { resources: Some(0), strings: Some(8), indices: Some(0), elements: Some(0) });
     assert_eq!(c.mask(10), Ok(&[][..]));
     assert_eq!(c.mask(11), refused(26, 0));
-    let plain = Container::open_default(&bytes).unwrap();
-    assert_eq!((plain.edition(), plain.edition_read(), plain.file_edition()), (1, 1, 3));
-    assert_eq!(plain.entry_name(), refused(26, 0));
+    let newest = Container::open_default(&bytes).unwrap();
+    assert_eq!((newest.edition(), newest.edition_read(), newest.file_edition()), (3, 3, 3));
+    assert_eq!(newest, c);
+    assert_eq!(newest.entry_name(), Ok(&b"main"[..]));
+    assert_eq!(Container::open(&bytes, 1).unwrap().entry_name(), refused(26, 0));
 
     assert_eq!(Container::open(&box_c(52, 5), 3).unwrap().entry_name(), Ok(&b""[..]));
     assert_eq!(Container::open(&box_c(52, 8), 3), refused(24, 0));
-    assert!(Container::open(&box_c(52, 8), 2).is_ok());
+    assert_eq!(Container::open_default(&box_c(52, 8)), refused(24, 0));
+    for edition in 0..=2 {
+        assert_eq!(Container::open(&box_c(52, 8), edition).unwrap().edition_read(), edition);
+    }
     assert_eq!(Container::open(&box_c(56, 1), 3).unwrap().entry_name(), Ok(&b"main"[..]));
 }
 

@@ -1,8 +1,8 @@
 //! A reader and writer of DirectX containers and their PSV0 part, and a reader
 //! of the DXIL part's header and of the signature parts, written from documents
-//! 000, 001 and 01 and requests 1 to 3 of 02 alone. It is a second opinion: every
-//! rule stands here as directly as it can be said, so that another reader can be
-//! held against it.
+//! 000, 001 and 01 and requests 1 to 3 and 5 of 02 alone. It is a second opinion:
+//! every rule stands here as directly as it can be said, so that another reader
+//! can be held against it.
 //!
 //! * [`table`] reads the part table (refusals 1 to 9).
 //! * [`open`] opens a whole container, [`open_psv0`] PSV0 data alone; both give
@@ -14,12 +14,14 @@
 //!   part of a container; [`first_difference`] compares its names with PSV0's.
 //! * [`write_psv0`] and [`assemble`] write, and [`plain`] says whether PSV0 data
 //!   has the form in which the writer would write it.
-//! * [`show`] prints all that an opening and the report on the program show.
+//! * [`show`] prints all that an opening and the report on the program show, and
+//!   [`inspect`] what the small program does: the part table, or the refusal.
 
 #![forbid(unsafe_code)]
 // Sizes are judged with the words of the papers: `% 4`, `(v + 7) / 8`.
 #![allow(clippy::manual_div_ceil, clippy::manual_is_multiple_of)]
 
+mod inspect;
 mod program;
 mod psv0;
 mod show;
@@ -27,6 +29,7 @@ mod signature;
 mod table;
 mod write;
 
+pub use inspect::inspect;
 pub use program::{program, program_report, Program, ProgramReport, Stages};
 pub use psv0::{
     open, open_default, open_psv0, open_psv0_default, Element, Handed, Layout, Opening, Resource,
@@ -43,6 +46,9 @@ pub use write::{assemble, plain, write_psv0};
 /// The greatest length of a container, and of PSV0 data read or written alone.
 pub const LONGEST: usize = 16_777_216;
 
+/// The longest file that the programs read; a longer one is `too long`.
+pub const LONGEST_READ: usize = 65_536;
+
 /// The greatest number of parts a container lists.
 pub const MOST_PARTS: usize = 96;
 
@@ -52,8 +58,8 @@ pub const EDITION_SIZES: [usize; 4] = [24, 36, 48, 52];
 /// The newest edition a reader or the writer can be asked for.
 pub const NEWEST: usize = EDITION_SIZES.len() - 1;
 
-/// The edition of an opening that names none.
-pub const DEFAULT_EDITION: usize = 1;
+/// Request 5: "An opening that names no edition now reads as edition 3".
+pub const DEFAULT_EDITION: usize = 3;
 
 /// The number of masks; they are numbered from 0.
 pub const MASKS: usize = 11;

@@ -299,7 +299,7 @@ pub fn open(bytes: &[u8], edition: usize) -> Result<Opening<'_>, Refusal> {
     Ok(opening)
 }
 
-/// Opens a container where no edition is named.
+/// Opens a container where no edition is named, as edition 3 (request 5).
 pub fn open_default(bytes: &[u8]) -> Result<Opening<'_>, Refusal> {
     open(bytes, DEFAULT_EDITION)
 }
@@ -315,7 +315,7 @@ pub fn open_psv0(data: &[u8], edition: usize) -> Result<Opening<'_>, Refusal> {
     read(data, edition)
 }
 
-/// Opens PSV0 data alone where no edition is named.
+/// Opens PSV0 data alone where no edition is named, as edition 3 (request 5).
 pub fn open_psv0_default(data: &[u8]) -> Result<Opening<'_>, Refusal> {
     open_psv0(data, DEFAULT_EDITION)
 }

@@ -1,7 +1,7 @@
 //! All that an opening, its queries and the reports on its program and its
 //! signature parts show, one item a line.
 
-use crate::{known, open, program, signature, Opening, SignaturePart, Stages};
+use crate::{known, open, program, signature, Opening, Part, SignaturePart, Stages};
 use std::fmt::Write;
 
 /// The lines for a container at an edition; every line ends with a line feed.
@@ -20,8 +20,7 @@ fn lines(opening: &Opening, text: &mut String) -> std::fmt::Result {
     writeln!(text, "edition {} read {}", opening.file_edition, opening.edition_read)?;
     writeln!(text, "parts {}", opening.parts.len())?;
     for (i, part) in opening.parts.iter().enumerate() {
-        let mark = if known(part.name) { "known" } else { "unknown" };
-        writeln!(text, "part {i} {} {} {} {mark}", name(part.name), part.offset, part.size)?;
+        writeln!(text, "part {i} {}", part_line(part))?;
     }
 
     let runtime = &opening.runtime;
@@ -169,6 +168,13 @@ fn signature_lines(opening: &Opening, part: SignaturePart, text: &mut String) ->
         None => String::from("none"),
     };
     writeln!(text, "{head} first_difference {first}")
+}
+
+/// A part as both programs list it: name, header offset, size, and whether the
+/// name is one of the 24.
+pub(crate) fn part_line(part: &Part) -> String {
+    let mark = if known(part.name) { "known" } else { "unknown" };
+    format!("{} {} {} {mark}", name(part.name), part.offset, part.size)
 }
 
 /// A number or other text, or `unset`.

@@ -148,11 +148,44 @@ fn an_edition_above_three_comes_first() {
 }
 
 #[test]
-fn no_edition_is_edition_one() {
-    let data = hull().bytes();
-    assert_eq!(open_psv0_default(&data).unwrap().edition_read, 1);
-    assert_eq!(open_default(&shader(&data)).unwrap().edition_read, 1);
+fn no_edition_is_edition_three() {
+    // The file's edition still bounds it.
+    for (size, edition) in [(24, 0), (36, 1), (48, 2), (52, 3), (56, 3)] {
+        let mut psv0 = Psv0::of_size(size);
+        psv0.strings = vec![0; 4];
+        let data = psv0.bytes();
+        assert_eq!(open_psv0_default(&data).unwrap().edition_read, edition);
+        assert_eq!(open_default(&shader(&data)).unwrap().edition_read, edition);
+    }
     assert_eq!(answer(open_default(&[])), refused(1, 0));
+    assert_eq!(answer(open_psv0_default(&[])), refused(12, 0));
+    // What edition 1 leaves unset: the entry name, kind and flags.
+    let data = hull().bytes();
+    let file = shader(&data);
+    for opening in [open_psv0_default(&data).unwrap(), open_default(&file).unwrap()] {
+        assert_eq!(opening.entry_name(), Ok(&b"main"[..]));
+        let resource = opening.resource(1).unwrap();
+        assert_eq!((resource.kind, resource.flags), (Some(50), Some(60)));
+    }
+}
+
+#[test]
+fn box_c_where_no_edition_is_named() {
+    let mut psv0 = box_c();
+    let bytes = shader(&psv0.bytes());
+    let opening = open_default(&bytes).unwrap();
+    assert_eq!((opening.file_edition, opening.edition_read), (3, 3));
+    assert_eq!(opening.entry_name(), Ok(&b"main"[..]));
+    // Who relied on edition 1 has to name it now.
+    psv0.runtime[48] = 8;
+    let data = psv0.bytes();
+    let bytes = shader(&data);
+    assert_eq!(answer(open_default(&bytes)), refused(24, 0));
+    assert_eq!(answer(open_psv0_default(&data)), refused(24, 0));
+    accepts(&data, 1);
+    let opening = open(&bytes, 1).unwrap();
+    assert_eq!((opening.file_edition, opening.edition_read), (3, 1));
+    assert_eq!(opening.entry_name(), refused(26, 0));
 }
 
 #[test]

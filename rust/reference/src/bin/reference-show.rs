@@ -2,13 +2,11 @@
 
 #![forbid(unsafe_code)]
 
+use reference::LONGEST_READ;
 use std::ffi::{OsStr, OsString};
 use std::fs::File;
 use std::io::{self, Read, Write};
 use std::process::ExitCode;
-
-/// The longest file that is read.
-const MOST: usize = 65_536;
 
 fn main() -> ExitCode {
     let arguments: Vec<OsString> = std::env::args_os().skip(1).collect();
@@ -29,11 +27,12 @@ fn answer(arguments: &[OsString]) -> (String, u8) {
     };
     // One byte more than allowed is enough to know that a file is too long.
     let mut bytes = Vec::new();
-    let read = File::open(file).and_then(|file| file.take(MOST as u64 + 1).read_to_end(&mut bytes));
+    let most = LONGEST_READ as u64 + 1;
+    let read = File::open(file).and_then(|file| file.take(most).read_to_end(&mut bytes));
     if read.is_err() {
         return (String::from("cannot open\n"), 2);
     }
-    if bytes.len() > MOST {
+    if bytes.len() > LONGEST_READ {
         return (String::from("too long\n"), 0);
     }
     (reference::show(&bytes, edition), 0)

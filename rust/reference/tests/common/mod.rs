@@ -24,25 +24,31 @@ pub fn words(numbers: &[u32]) -> Vec<u8> {
 
 /// A container with its parts one after another, nothing between them.
 pub fn container(parts: &[(&[u8; 4], &[u8])]) -> Vec<u8> {
-    let mut offset = 32 + 4 * parts.len();
+    spread(parts, Vec::new)
+}
+
+/// The same with gaps: `gap` gives the bytes before each part in turn, then
+/// those after the last.
+pub fn spread(parts: &[(&[u8; 4], &[u8])], mut gap: impl FnMut() -> Vec<u8>) -> Vec<u8> {
+    let start = 32 + 4 * parts.len();
     let mut offsets = Vec::new();
     let mut body = Vec::new();
     for (name, data) in parts {
-        offsets.push(offset as u32);
+        body.extend(gap());
+        offsets.push((start + body.len()) as u32);
         body.extend_from_slice(*name);
         body.extend_from_slice(&(data.len() as u32).to_le_bytes());
         body.extend_from_slice(data);
-        offset += 8 + data.len();
     }
+    body.extend(gap());
     let mut bytes = Vec::new();
     bytes.extend_from_slice(b"DXBC");
     bytes.extend_from_slice(&[0xd1; 16]);
     bytes.extend_from_slice(&[1, 0, 0, 0]);
-    bytes.extend_from_slice(&(offset as u32).to_le_bytes());
+    bytes.extend_from_slice(&((start + body.len()) as u32).to_le_bytes());
     bytes.extend_from_slice(&(parts.len() as u32).to_le_bytes());
     bytes.extend_from_slice(&words(&offsets));
     bytes.extend_from_slice(&body);
-    assert_eq!(bytes.len(), offset);
     bytes
 }
 
@@ -295,5 +301,106 @@ impl Random {
 
     pub fn pick<T: Copy>(&mut self, from: &[T]) -> T {
         from[self.below(from.len())]
+    }
+}
+
+/// PSV0 data that is mostly right.
+pub fn made(random: &mut Random) -> Psv0 {
+    let size = random.pick(&[24, 24, 28, 32, 36, 36, 40, 48, 48, 52, 52, 52, 56, 60]);
+    let mut psv0 = Psv0::of_size(size);
+    psv0.runtime = random.bytes(size);
+    psv0.resource_size = random.pick(&[16, 16, 20, 24, 24, 28]);
+    let count = random.pick(&[0, 0, 1, 2, 3]);
+    psv0.resources = random.bytes(count * psv0.resource_size as usize);
+    if size >= 36 {
+        let stage = if random.one_in(60) { 16 } else { random.pick(&[1, 2, 3, 4, 5, 13, 14, 15]) };
+        psv0.runtime[24] = stage;
+        psv0.runtime[25] = if random.one_in(60) { 2 } else { random.below(2) as u8 };
+        psv0.runtime[26] = random.pick(&[0, 1, 8, 9]);
+        for at in 28..31 {
+            psv0.runtime[at] = random.pick(&[0, 0, 1, 2]);
+        }
+        psv0.runtime[31] = random.pick(&[0, 1, 2]);
+        psv0.runtime[32] = random.pick(&[0, 1, 8, 9]);
+        for at in 33..36 {
+            let some = stage == 2 || random.one_in(100);
+            psv0.runtime[at] = if some { random.pick(&[0, 1, 9]) } else { 0 };
+        }
+        let length = 4 * random.pick(&[1, 2, 4]);
+        psv0.strings = (0..length).map(|_| random.pick(b"\0\0ab")).collect();
+        if !random.one_in(20) {
+            psv0.strings[length - 1] = 0;
+        }
+        let count = random.pick(&[0, 1, 2, 6]);
+        psv0.indices = (0..count).map(|_| random.pick(&[0, 1, 2, u32::MAX])).collect();
+        let elements: usize = psv0.runtime[28..31].iter().map(|n| usize::from(*n)).sum();
+        psv0.element_size = random.pick(&[16, 16, 16, 20, 32]);
+        for _ in 0..elements {
+            let bound = length + usize::from(random.one_in(12));
+            let mut record = words(&[random.below(bound) as u32]);
+            // Any stretch of the table, at times one too far or one too long.
+            let i = random.below(count + 1);
+            let rows = random.below(count - i + 1) + usize::from(random.one_in(24));
+            record.extend(words(&[(i + usize::from(random.one_in(24))) as u32]));
+            record.push(rows as u8);
+            record.extend(random.bytes(psv0.element_size as usize - 9));
+            psv0.elements.extend(record);
+        }
+        psv0.masks = random.bytes(4 * mask_total(&psv0.runtime));
+        if size >= 52 {
+            let bound = length + usize::from(random.one_in(8));
+            put4(&mut psv0.runtime, 48, random.below(bound) as u32);
+        }
+    }
+    if random.one_in(4) {
+        let length = random.below(9);
+        psv0.after = random.bytes(length);
+    }
+    psv0
+}
+
+/// The words of all masks, counted once more.
+pub fn mask_total(runtime: &[u8]) -> usize {
+    let byte = |at: usize| usize::from(runtime[at]);
+    let w = |vectors: usize| vectors.div_ceil(8);
+    let stage = byte(24);
+    let p = if [3, 4, 13].contains(&stage) { byte(26) } else { 0 };
+    let u = byte(31);
+    let outputs: usize = (32..36).map(|at| w(byte(at))).sum();
+    let view = byte(25) == 1;
+    let mut total = outputs * u * 4;
+    total += if view { outputs } else { 0 };
+    total += if view && (stage == 3 || stage == 13) { w(p) } else { 0 };
+    total += if stage == 3 { w(p) * u * 4 } else { 0 };
+    total += if stage == 4 { w(byte(32)) * p * 4 } else { 0 };
+    total
+}
+
+/// Damage of one of several kinds, or none.
+pub fn damage(random: &mut Random, bytes: &mut Vec<u8>) {
+    let kind = random.below(8);
+    if bytes.is_empty() || kind > 4 {
+        return;
+    }
+    for _ in 0..=random.below(3) {
+        let at = random.below(bytes.len());
+        match kind {
+            0 => bytes[at] = random.below(256) as u8,
+            1 => bytes[at] ^= 1 << random.below(8),
+            2 => {
+                let at = at / 4 * 4;
+                if at + 4 <= bytes.len() {
+                    let numbers = [0, 1, 4, 16, 24, 97, 1 << 31, u32::MAX, u32::MAX - 3];
+                    put4(bytes, at, random.pick(&numbers));
+                }
+            }
+            3 => bytes.truncate(at.max(1)),
+            _ => bytes.push(random.below(256) as u8),
+        }
+    }
+    // Mostly the size field is mended, so that 5 doesn't hide all else.
+    if bytes.len() >= 32 && !random.one_in(10) {
+        let length = bytes.len() as u32;
+        put4(bytes, 24, length);
     }
 }
