@@ -24,6 +24,7 @@ uint8_t reference_table(const uint8_t *, size_t);
 uint8_t reference_string(const uint8_t *, size_t, size_t, size_t);
 uint8_t reference_signature(const uint8_t *, size_t, size_t, uint32_t);
 uint8_t reference_difference(const uint8_t *, size_t, size_t, uint32_t, size_t *);
+uint8_t reference_root(const uint8_t *, size_t, size_t);
 uint8_t reference_write_psv0(size_t, const uint8_t *const *, const size_t *, uint8_t *, size_t);
 uint8_t reference_assemble(const uint8_t *, const uint32_t *, size_t, const uint8_t *, size_t, const uint8_t *, uint8_t *, size_t);
 uint32_t pass_bytewise(const uint8_t *, size_t);
@@ -289,6 +290,11 @@ static void real_shaders(const std::filesystem::path &folder) {
             {"first difference, ISG1",
              {repeat([&] { return qollqamir_signature_difference(b.data(), b.size(), 3, QOLLQAMIR_ISG1); }),
               repeat([&] { return reference_difference(b.data(), b.size(), 3, QOLLQAMIR_ISG1, nullptr); }), nullptr}},
+            {"root signature report",
+             {repeat([&] { return qollqamir_root_signature(b.data(), b.size(), 3); }),
+              repeat([&] { return reference_root(b.data(), b.size(), 3); }), nullptr}},
+            {"root signature, item 0",
+             {repeat([&] { return qollqamir_root_item(b.data(), b.size(), 3, 0); }), nullptr, nullptr}},
             {"string of element 0",
              {string_of(b, 0), repeat([&] { return reference_string(b.data(), b.size(), 3, 0); }), llvm_create(b)}},
             {"write PSV0", {repeat(write), repeat([&] { return reference_write_psv0(e, sections, lengths, out.data(), out.size()); }), nullptr}},
@@ -342,6 +348,9 @@ static std::vector<Row> calls_on(const Bytes &b, size_t e) {
         {"signature element", {repeat([=] { return qollqamir_signature_element(d, n, e, QOLLQAMIR_ISG1, 0); })}},
         {"signature name", {repeat([=] { return qollqamir_signature_name(d, n, e, QOLLQAMIR_ISG1, 0); })}},
         {"signature difference", {repeat([=] { return qollqamir_signature_difference(d, n, e, QOLLQAMIR_ISG1); })}},
+        {"root signature", {repeat([=] { return qollqamir_root_signature(d, n, e); })}},
+        {"root item", {repeat([=] { return qollqamir_root_item(d, n, e, 0); })}},
+        {"root range", {repeat([=] { return qollqamir_root_range(d, n, e, 0, 0); })}},
         // These name no edition.
         {"open, default edition", {e > 3 ? nullptr : repeat([=] { return qollqamir_open_default(d, n); })}},
         {"part of the table", {e > 3 ? nullptr : repeat([=] { return qollqamir_table_part(d, n, name); })}},
@@ -571,6 +580,67 @@ static void signatures() {
     round_ns = usual;
 }
 
+// Root signature data: counts that are stated, parameters of a type after the header, whose data are the header's first bytes, and samplers.
+static Bytes root_of(uint32_t parameters, uint32_t stated, uint32_t type, uint32_t samplers) {
+    Bytes b;
+    for (uint32_t word : {2u, stated, 24u, samplers, 24 + 12 * parameters, 0u})
+        append(b, word);
+    // A table at byte 20 has no ranges, at offset 0 or at the first parameter's type.
+    for (uint32_t i = 0; i < parameters; i++)
+        for (uint32_t word : {type, i, 20u})
+            append(b, word);
+    b.resize(b.size() + 52 * size_t(samplers), 3);
+    return b;
+}
+
+// Long root signatures, of 8 and 16 MB: time in proportion to the data, whatever the counts.
+static void roots() {
+    struct Case {
+        std::string name;
+        Bytes bytes;
+        size_t number;
+    };
+    auto with = [](const Bytes &rts0) {
+        Parts p;
+        p.add("DXIL", Bytes(4, 1));
+        p.add("PSV0", psv0_of(0, 0, 0, Bytes(4, 0), 0));
+        p.add("RTS0", rts0);
+        return p.container();
+    };
+    std::vector<Case> cases;
+    for (uint32_t mb : {8, 16}) {
+        std::string of = " of " + std::to_string(mb) + " MB";
+        uint32_t n = mb * 87300, m = mb * 20100;
+        cases.push_back({"constants" + of, with(root_of(n, n, 1, 0)), 0});
+        cases.push_back({"tables" + of, with(root_of(n, n, 0, 0)), 0});
+        cases.push_back({"descriptors" + of, with(root_of(n, n, 3, 0)), 0});
+        cases.push_back({"samplers" + of, with(root_of(0, 0, 0, m)), 0});
+        cases.push_back({"2^32 - 1 tables stated," + of.substr(3), with(root_of(n, UINT32_MAX, 0, 0)), 48});
+    }
+    // What it costs that a count near 2^32 is stated and the first item lies outside.
+    cases.push_back({"2^32 - 1 stated, 24 bytes", with(root_of(0, UINT32_MAX, 0, 0)), 48});
+    double usual = round_ns;
+    round_ns = 1e6;
+    printf("\nroot signatures, ns a call beside a plain pass over the container\n");
+    printf("%-30s %11s %11s %11s %9s %9s\n", "", "report", "ref. report", "pass", "report", "/ref");
+    for (auto &c : cases) {
+        const Bytes &b = c.bytes;
+        require(b.size() <= 16777216 && qollqamir_open(b.data(), b.size(), 3).verdict.number == 0, c.name + " does not open");
+        require(qollqamir_root_signature(b.data(), b.size(), 3).verdict.number == c.number, c.name);
+        require(reference_root(b.data(), b.size(), 3) == c.number, c.name);
+        auto t = measure({repeat([&] { return qollqamir_root_signature(b.data(), b.size(), 3); }),
+                          repeat([&] { return reference_root(b.data(), b.size(), 3); }),
+                          repeat([&] { return pass_bytewise(b.data(), b.size()); })});
+        printf("%-30s", c.name.c_str());
+        for (size_t k = 0; k < 3; k++)
+            cell(t[k]);
+        ratio(t.ratio(0, 2));
+        ratio(t.ratio(0, 1));
+        printf("\n");
+    }
+    round_ns = usual;
+}
+
 // What handing back 1,176 bytes costs: the table of a file that the first check refuses, beside a call that hands back 40.
 static void handing_back(const std::filesystem::path &shader) {
     Bytes b = load(shader);
@@ -722,4 +792,5 @@ int main(int argc, char **argv) {
     handing_back(folder / "sdl_D3D12_VertexShader_YUV.dxbc");
     hostile();
     signatures();
+    roots();
 }

@@ -202,6 +202,74 @@ typedef struct {
     size_t number;
 } qollqamir_difference;
 
+/* The header of a root signature (part RTS0): the version, 1 for 1.0 or 2 for 1.1, the numbers of parameters and of static samplers, and the
+   flags. Its items are the parameters and then the samplers, in one numbering. */
+typedef struct {
+    qollqamir_verdict verdict;
+    uint32_t version;
+    uint32_t parameters;
+    uint32_t samplers;
+    uint32_t flags;
+} qollqamir_root_data;
+
+/* The report on a container's root signature: the same, and the part's data as a stretch of the container. */
+typedef struct {
+    qollqamir_verdict verdict;
+    uint32_t version;
+    uint32_t parameters;
+    uint32_t samplers;
+    uint32_t flags;
+    size_t start;
+    size_t len;
+} qollqamir_root_report;
+
+/* A float of the file, whatever its bits: both members have the file's four bytes. */
+typedef union {
+    uint32_t bits;
+    float value;
+} qollqamir_single;
+
+/* An item of a root signature. parameter_type tells which: 0 a table (QOLLQAMIR_TABLE), 1 constants, 2 to 4 a descriptor; it is unset for a
+   static sampler. What the item's kind lacks is 0 and unset.
+   all:          visibility
+   table:        ranges, ranges_offset (from the start of the part's data)
+   constants:    register_number, space, count
+   descriptor:   register_number, space, flags (unset in 1.0)
+   sampler:      register_number, space, and all from filter on */
+typedef struct {
+    qollqamir_verdict verdict;
+    qollqamir_field parameter_type;
+    uint32_t visibility;
+    uint32_t register_number;
+    uint32_t space;
+    uint32_t count;
+    uint32_t ranges;
+    uint32_t ranges_offset;
+    qollqamir_field flags;
+    uint32_t filter;
+    uint32_t address_u;
+    uint32_t address_v;
+    uint32_t address_w;
+    qollqamir_single lod_bias;
+    uint32_t anisotropy;
+    uint32_t comparison;
+    uint32_t border;
+    qollqamir_single least_lod;
+    qollqamir_single greatest_lod;
+} qollqamir_root_record;
+
+/* A range of a table. The flags are unset in 1.0; the offset counts descriptors from the table's start, 4294967295 where the range follows the
+   one before it. */
+typedef struct {
+    qollqamir_verdict verdict;
+    uint32_t range_type;
+    uint32_t descriptors;
+    uint32_t base_register;
+    uint32_t space;
+    qollqamir_field flags;
+    size_t offset;
+} qollqamir_range_record;
+
 /* Every byte of an answer is a byte of a field, so an answer can be written out, compared or hashed as it stands. A struct that is added
    gets its line here too. */
 #ifdef __cplusplus
@@ -281,6 +349,31 @@ QOLLQAMIR_NO_PADDING(qollqamir_signature_record,
 QOLLQAMIR_NO_PADDING(qollqamir_difference,
                      QOLLQAMIR_SIZE(qollqamir_difference, verdict) + QOLLQAMIR_SIZE(qollqamir_difference, found) +
                      QOLLQAMIR_SIZE(qollqamir_difference, number));
+QOLLQAMIR_NO_PADDING(qollqamir_root_data,
+                     QOLLQAMIR_SIZE(qollqamir_root_data, verdict) + QOLLQAMIR_SIZE(qollqamir_root_data, version) +
+                     QOLLQAMIR_SIZE(qollqamir_root_data, parameters) + QOLLQAMIR_SIZE(qollqamir_root_data, samplers) +
+                     QOLLQAMIR_SIZE(qollqamir_root_data, flags));
+QOLLQAMIR_NO_PADDING(qollqamir_root_report,
+                     QOLLQAMIR_SIZE(qollqamir_root_report, verdict) + QOLLQAMIR_SIZE(qollqamir_root_report, version) +
+                     QOLLQAMIR_SIZE(qollqamir_root_report, parameters) + QOLLQAMIR_SIZE(qollqamir_root_report, samplers) +
+                     QOLLQAMIR_SIZE(qollqamir_root_report, flags) + QOLLQAMIR_SIZE(qollqamir_root_report, start) +
+                     QOLLQAMIR_SIZE(qollqamir_root_report, len));
+QOLLQAMIR_NO_PADDING(qollqamir_root_record,
+                     QOLLQAMIR_SIZE(qollqamir_root_record, verdict) + QOLLQAMIR_SIZE(qollqamir_root_record, parameter_type) +
+                     QOLLQAMIR_SIZE(qollqamir_root_record, visibility) + QOLLQAMIR_SIZE(qollqamir_root_record, register_number) +
+                     QOLLQAMIR_SIZE(qollqamir_root_record, space) + QOLLQAMIR_SIZE(qollqamir_root_record, count) +
+                     QOLLQAMIR_SIZE(qollqamir_root_record, ranges) + QOLLQAMIR_SIZE(qollqamir_root_record, ranges_offset) +
+                     QOLLQAMIR_SIZE(qollqamir_root_record, flags) + QOLLQAMIR_SIZE(qollqamir_root_record, filter) +
+                     QOLLQAMIR_SIZE(qollqamir_root_record, address_u) + QOLLQAMIR_SIZE(qollqamir_root_record, address_v) +
+                     QOLLQAMIR_SIZE(qollqamir_root_record, address_w) + QOLLQAMIR_SIZE(qollqamir_root_record, lod_bias) +
+                     QOLLQAMIR_SIZE(qollqamir_root_record, anisotropy) + QOLLQAMIR_SIZE(qollqamir_root_record, comparison) +
+                     QOLLQAMIR_SIZE(qollqamir_root_record, border) + QOLLQAMIR_SIZE(qollqamir_root_record, least_lod) +
+                     QOLLQAMIR_SIZE(qollqamir_root_record, greatest_lod));
+QOLLQAMIR_NO_PADDING(qollqamir_range_record,
+                     QOLLQAMIR_SIZE(qollqamir_range_record, verdict) + QOLLQAMIR_SIZE(qollqamir_range_record, range_type) +
+                     QOLLQAMIR_SIZE(qollqamir_range_record, descriptors) + QOLLQAMIR_SIZE(qollqamir_range_record, base_register) +
+                     QOLLQAMIR_SIZE(qollqamir_range_record, space) + QOLLQAMIR_SIZE(qollqamir_range_record, flags) +
+                     QOLLQAMIR_SIZE(qollqamir_range_record, offset));
 #undef QOLLQAMIR_SIZE
 #undef QOLLQAMIR_NO_PADDING
 
@@ -317,6 +410,15 @@ enum {
     QOLLQAMIR_ISG1 = 0,
     QOLLQAMIR_OSG1 = 1,
     QOLLQAMIR_PSG1 = 2
+};
+
+/* Parameter types of a root signature; 2, 3 and 4 are descriptors of a constant buffer, a resource to read and one to write. */
+enum {
+    QOLLQAMIR_TABLE = 0,
+    QOLLQAMIR_CONSTANTS = 1,
+    QOLLQAMIR_CBV = 2,
+    QOLLQAMIR_SRV = 3,
+    QOLLQAMIR_UAV = 4
 };
 
 /* The part table alone: 1 to 9. */
@@ -394,6 +496,31 @@ qollqamir_span qollqamir_signature_name(const uint8_t *bytes, size_t len, size_t
    it (the list is shorter, or the edition read is 0): those of qollqamir_signature. Compilers leave the PSV0 name of a system value empty,
    so most real shaders report element 0. */
 qollqamir_difference qollqamir_signature_difference(const uint8_t *bytes, size_t len, size_t edition, uint32_t part);
+
+/* The data of a part RTS0 alone: 46 (under 24 bytes), 47 (a version other than 1 and 2), then the first bad item, its number as place: 48 (its
+   own bytes, 12 of a parameter and 52 of a sampler, are not inside the data), 49 (a type above 4), 50 (the parameter's data are not inside),
+   51 (a table's ranges end past the data's end). Takes time in proportion to the data at most, whatever the counts. */
+qollqamir_root_data qollqamir_rts0_read(const uint8_t *data, size_t len);
+
+/* Item i of such data, parameters before samplers, and range j of it: 46 to 51, then 26 where there is no such item, the item is no table or has
+   no such range. */
+qollqamir_root_record qollqamir_rts0_item(const uint8_t *data, size_t len, size_t i);
+qollqamir_range_record qollqamir_rts0_range(const uint8_t *data, size_t len, size_t i, size_t j);
+
+/* The same of item i by itself, whatever the others are: 46, 47, 26, then 48 to 51 of its own; of a range then 26 as above. Where the data are
+   accepted it is what the calls above give, so data that were judged once can be listed without judging them anew: each call takes the same
+   short time. (Tables may share ranges, so hostile data can have as many ranges to list as their tables times their length.) */
+qollqamir_root_record qollqamir_rts0_item_alone(const uint8_t *data, size_t len, size_t i);
+qollqamir_range_record qollqamir_rts0_range_alone(const uint8_t *data, size_t len, size_t i, size_t j);
+
+/* The report on a container's root signature at an edition: what qollqamir_open gives, 26 where there is no part RTS0, then 46 to 51. So a
+   container with that part alone gives 10; its data can be read by qollqamir_table_part and qollqamir_rts0_read. Items can be listed by
+   qollqamir_rts0_item_alone on the stretch that the report gives. */
+qollqamir_root_report qollqamir_root_signature(const uint8_t *bytes, size_t len, size_t edition);
+
+/* Item i of it, and range j of that: those of qollqamir_root_signature, then 26 as above. */
+qollqamir_root_record qollqamir_root_item(const uint8_t *bytes, size_t len, size_t edition, size_t i);
+qollqamir_range_record qollqamir_root_range(const uint8_t *bytes, size_t len, size_t edition, size_t i, size_t j);
 
 /* Writes PSV0 data in plain form: 25; 27; 2; 15 to 24 as reader 3 would answer; 28. On a refusal out keeps every byte; bytes past the
    result keep their contents. */

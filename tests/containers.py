@@ -50,10 +50,25 @@ def signature(elements, tail, offset=8):
     return words(len(elements), offset) + bytes(offset - 8) + records + tail
 
 
+def root_signature():
+    """Data of a root signature in 1.1 with every kind of item: a table of two ranges, constants, a descriptor, a table without ranges at the
+    data's end, and two static samplers, whose LODs are NaNs, quiet and signalling, an infinity, -0, a subnormal and 1.5."""
+    most = 0xFFFFFFFF
+    types = [(0, 5, 72), (1, 0, 80), (4, most, 92), (0, 7, 104)]
+    data = words(2, len(types), 24, 2, 160, 0x80000001) + b"".join(words(*t) for t in types)
+    data += words(2, 112) + words(3, 4, 5) + words(6, 7, 8) + words(0, 264)
+    data += words(0, 1, 2, 3, 0, most) + words(most, most, most, most, 65536, 4)
+    samplers = [(0x7FC00001, 0xFFA00000, 0x7F800000), (0x80000000, 1, 0x3FC00000)]
+    for bias, least, greatest in samplers:
+        data += words(21, 1, 2, most, bias, 16, 4, 2, least, greatest, 8, 9, 5)
+    return data
+
+
 def hull():
     """A hull shader with something at every line of `show`: PSV0 data off every multiple of 4, records longer than the known ones,
     strings with bytes that don't print, index arrays of 0 (at the table's end), 1 and 3 numbers, view and input masks. ISG1: PSV0's name,
-    no name, and one past PSV0's list; OSG1: an empty name, in the header, as PSV0 has it; PSG1: a bad name, the second."""
+    no name, and one past PSV0's list; OSG1: an empty name, in the header, as PSV0 has it; PSG1: a bad name, the second. RTS0: every kind of
+    item."""
     stage, view, patch = 3, 1, 2
     record = bytes(range(16)) + words(4, 0xFFFFFFFF) + bytes([stage, view, patch, 0, 2, 1, 1, 1, 9, 0, 0, 0]) + words(7, 8, 9, 20)
     resources = words(2, 0, 0, 0, 13, 0, 99) + words(3, 1, 5, 0xFFFFFFFF, 2, 1, 99)
@@ -85,5 +100,6 @@ def hull():
             (b"ISG1", signature(inputs, strings[1:10] + b"!\x80\0", 9)),
             (b"OSG1", signature(outputs, b"")),
             (b"PSG1", signature(patches, b"ab\0c")),
+            (b"RTS0", root_signature()),
         ]
     )

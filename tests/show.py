@@ -2,7 +2,11 @@
 """show.py PROGRAM: runs the full dump on the words it may be started with and on files at its limits, and compares what it prints with
 what is said of it. What it prints of containers is compared by vectors.py and by the crate's own run.
 
+show.py PROGRAM --beside OTHER FOLDER: holds what it prints of every file in a folder, at editions 0 and 3, against what another program
+prints, and counts the lines on root signatures, of which each kind has to come.
+
 show.py --write FILE: writes the container of the crate's own run."""
+import collections
 import pathlib
 import subprocess
 import sys
@@ -19,7 +23,7 @@ SHOWN_M = (
     "output_vectors_0 unset\noutput_vectors_1 unset\noutput_vectors_2 unset\noutput_vectors_3 unset\n"
     "threads_x unset\nthreads_y unset\nthreads_z unset\nentry_name_offset unset\nentry_name unset\n"
     "resources 0\nstrings unset\nindices unset\nelements unset\n" + "".join(f"mask {m} unset\n" for m in range(11)) + "program refused 40 0\n"
-    "signature ISG1 refused 26 0\nsignature OSG1 refused 26 0\nsignature PSG1 refused 26 0\n"
+    "signature ISG1 refused 26 0\nsignature OSG1 refused 26 0\nsignature PSG1 refused 26 0\nroot_signature refused 26 0\n"
 )
 SHOWN_LONGEST = SHOWN_M.replace(
     "parts 2\npart 0 DXIL 40 4 known\npart 1 PSV0 52 32 known\n",
@@ -56,7 +60,30 @@ CASES = [
 ]
 
 
+# How the lines on a root signature begin, without their numbers, that a folder has to give.
+ROOT_LINES = {"root_signature refused", "root_signature version", "item constants", "item descriptor", "item table", "item range", "item sampler"}
+
+
+def beside(program, other, folder):
+    wrong, seen, files = 0, collections.Counter(), sorted(pathlib.Path(folder).iterdir())
+    for path in files:
+        for edition in "03":
+            texts = [subprocess.run([p, edition, path], stdout=subprocess.PIPE).stdout for p in (program, other)]
+            if texts[0] != texts[1]:
+                wrong += 1
+                print(f"show: {path.name} at edition {edition}: not as the other program prints it")
+            lines = (line.split(" ") for line in texts[1].decode().splitlines())
+            seen.update(" ".join([word[0], word[2 if word[0] == "item" else 1]]) for word in lines if word[0] in ("item", "root_signature"))
+    missing = ROOT_LINES - set(seen)
+    for start in sorted(missing):
+        print(f"show: no line '{start} ..' came")
+    print(f"show: {2 * len(files)} texts beside another program's, {wrong} wrong; " + ", ".join(f"{start} {n}" for start, n in sorted(seen.items())))
+    return 1 if wrong or missing else 0
+
+
 def main():
+    if sys.argv[2:3] == ["--beside"]:
+        return beside(sys.argv[1], *sys.argv[3:])
     if sys.argv[1] == "--write":
         pathlib.Path(sys.argv[2]).write_bytes(hull())
         return 0

@@ -1,5 +1,5 @@
 /* Calls the library through its C header: the boxes M and C of document 01, the last field of every struct, both writers, the program
-   header and the signature parts of document 02, every byte of the answers of every call, null pointers. */
+   header, the signature parts and the root signature of document 02, every byte of the answers of every call, null pointers. */
 #include "qollqamir.h"
 
 #include <stdio.h>
@@ -945,22 +945,335 @@ static void test_difference(void) {
     difference(QOLLQAMIR_PSG1, "eAb", 2);
 }
 
+/* ---- the root signature */
+
+/* Data of 192 bytes in version 1 or 2: a table of two ranges, constants, a descriptor and a static sampler, whose own bytes are at 24, 36, 48
+   and 140; the parameters' data are at 60, 68 and 80, the ranges from 92 on. The three levels of detail are bits. */
+enum { RTS0 = 192, ITEMS = 4 };
+
+static void rts0(uint8_t *out, uint32_t version, const uint32_t *lods) {
+    const uint32_t words[RTS0 / 4] = {
+        version, 3, 24, 1, 140, 0x90909090,
+        0, 5, 60, 1, 0x81818181, 68, 4, 3, 80,
+        2, 92, 0x21212121, 22, 23, 31, 0x32323232, 33,
+        41, 42, 43, 44, 45, 46, 51, 52, 53, 54, 0x55555555, 0xffffffff,
+        1, 2, 3, 4, lods[0], 6, 7, 8, lods[1], lods[2], 11, 12, 13,
+    };
+    for (size_t i = 0; i < RTS0 / 4; i++) {
+        put32(out + 4 * i, words[i]);
+    }
+}
+
+static const uint32_t some_lods[3] = {0x7fa00001, 0x80000000, 0x3fc00000};
+
+/* What item i of accepted data shows, from the bytes. */
+static qollqamir_root_record shown_item(const uint8_t *data, size_t i) {
+    size_t parameters = get32(data + 4);
+    qollqamir_root_record record = {.verdict = {0, 0}};
+    if (i >= parameters) {
+        uint32_t w[13];
+        for (size_t k = 0; k < 13; k++) {
+            w[k] = get32(data + get32(data + 16) + 52 * (i - parameters) + 4 * k);
+        }
+        return (qollqamir_root_record){
+            .filter = w[0], .address_u = w[1], .address_v = w[2], .address_w = w[3], .lod_bias.bits = w[4], .anisotropy = w[5],
+            .comparison = w[6], .border = w[7], .least_lod.bits = w[8], .greatest_lod.bits = w[9], .register_number = w[10],
+            .space = w[11], .visibility = w[12],
+        };
+    }
+    const uint8_t *own = data + get32(data + 8) + 12 * i, *more = data + get32(own + 8);
+    record.parameter_type = (qollqamir_field){1, get32(own)};
+    record.visibility = get32(own + 4);
+    if (get32(own) == QOLLQAMIR_TABLE) {
+        record.ranges = get32(more);
+        record.ranges_offset = get32(more + 4);
+        return record;
+    }
+    record.register_number = get32(more);
+    record.space = get32(more + 4);
+    if (get32(own) == QOLLQAMIR_CONSTANTS) {
+        record.count = get32(more + 8);
+    } else if (get32(data) == 2) {
+        record.flags = (qollqamir_field){1, get32(more + 8)};
+    }
+    return record;
+}
+
+/* What range j of item i shows, or the refusal 26. */
+static qollqamir_range_record shown_range(const uint8_t *data, size_t i, size_t j) {
+    qollqamir_root_record item = shown_item(data, i);
+    if (item.parameter_type.set == 0 || item.parameter_type.value != QOLLQAMIR_TABLE || j >= item.ranges) {
+        return (qollqamir_range_record){.verdict = {26, 0}};
+    }
+    bool first = get32(data) == 1;
+    const uint8_t *r = data + item.ranges_offset + (first ? 20 : 24) * j;
+    return (qollqamir_range_record){
+        .range_type = get32(r), .descriptors = get32(r + 4), .base_register = get32(r + 8), .space = get32(r + 12),
+        .flags = first ? (qollqamir_field){0, 0} : (qollqamir_field){1, get32(r + 16)}, .offset = get32(r + (first ? 16 : 20)),
+    };
+}
+
+static void same_item(qollqamir_root_record got, qollqamir_root_record expected) { CHECK(memcmp(&got, &expected, sizeof got) == 0); }
+
+static void same_range(qollqamir_range_record got, qollqamir_range_record expected) { CHECK(memcmp(&got, &expected, sizeof got) == 0); }
+
+#define NO_ITEM(n, p) ((qollqamir_root_record){.verdict = {n, p}})
+#define NO_RANGE(n, p) ((qollqamir_range_record){.verdict = {n, p}})
+
+/* The three calls on a container's root signature, refused. */
+static void no_root(const uint8_t *bytes, size_t n, size_t edition, size_t number, size_t place) {
+    qollqamir_root_report report = qollqamir_root_signature(bytes, n, edition), no_report = {.verdict = {number, place}};
+    CHECK(memcmp(&report, &no_report, sizeof report) == 0);
+    static const size_t numbers[] = {0, 3, SIZE_MAX};
+    for (int k = 0; k < 3; k++) {
+        same_item(qollqamir_root_item(bytes, n, edition, numbers[k]), NO_ITEM(number, place));
+        same_range(qollqamir_root_range(bytes, n, edition, numbers[k], 0), NO_RANGE(number, place));
+    }
+}
+
+/* Every call on root signature data, and on a container that has them, at every edition; accepted where number is 0. */
+static void root(const uint8_t *data, size_t len, size_t number, size_t place) {
+    bool good = number == 0;
+    qollqamir_root_data read = qollqamir_rts0_read(data, len), header = {.verdict = {number, place}};
+    if (good) {
+        header = (qollqamir_root_data){{0, 0}, get32(data), get32(data + 4), get32(data + 12), get32(data + 20)};
+    }
+    CHECK(memcmp(&read, &header, sizeof read) == 0);
+    size_t items = (size_t)header.parameters + header.samplers;
+    const size_t beyond[] = {items, items + 1, (size_t)1 << 32, (size_t)1 << 33, SIZE_MAX};
+
+    uint8_t psv0[64], bytes[512];
+    size_t n = shader_with(bytes, psv0, box_m(psv0, 24, 24), "RTS0", data, len);
+    for (size_t edition = 0; edition <= 3; edition++) {
+        if (!good) {
+            no_root(bytes, n, edition, number, place);
+            continue;
+        }
+        qollqamir_root_report report = qollqamir_root_signature(bytes, n, edition);
+        ACCEPTED(report);
+        CHECK(report.version == header.version && report.parameters == header.parameters && report.samplers == header.samplers);
+        CHECK(report.flags == header.flags && report.start == n - len && report.len == len);
+        for (size_t i = 0; i < items; i++) {
+            same_item(qollqamir_root_item(bytes, n, edition, i), shown_item(data, i));
+            for (size_t j = 0; j < 4; j++) {
+                same_range(qollqamir_root_range(bytes, n, edition, i, j), shown_range(data, i, j));
+            }
+        }
+        for (int k = 0; k < 5; k++) {
+            same_item(qollqamir_root_item(bytes, n, edition, beyond[k]), NO_ITEM(26, 0));
+            same_range(qollqamir_root_range(bytes, n, edition, beyond[k], 0), NO_RANGE(26, 0));
+        }
+    }
+    no_root(bytes, n, 4, 25, 0);
+    no_root(bytes, n - 1, 3, 5, 0);
+
+    for (size_t i = 0; i < items; i++) {
+        same_item(qollqamir_rts0_item(data, len, i), shown_item(data, i));
+        same_item(qollqamir_rts0_item_alone(data, len, i), shown_item(data, i));
+        for (size_t j = 0; j < 4; j++) {
+            same_range(qollqamir_rts0_range(data, len, i, j), shown_range(data, i, j));
+            same_range(qollqamir_rts0_range_alone(data, len, i, j), shown_range(data, i, j));
+        }
+        same_range(qollqamir_rts0_range(data, len, i, SIZE_MAX), NO_RANGE(26, 0));
+        same_range(qollqamir_rts0_range_alone(data, len, i, SIZE_MAX), NO_RANGE(26, 0));
+    }
+    for (int k = 0; k < 5; k++) {
+        same_item(qollqamir_rts0_item(data, len, beyond[k]), NO_ITEM(good ? 26 : number, place));
+        same_range(qollqamir_rts0_range(data, len, beyond[k], 0), NO_RANGE(good ? 26 : number, place));
+        if (good) {
+            same_item(qollqamir_rts0_item_alone(data, len, beyond[k]), NO_ITEM(26, 0));
+            same_range(qollqamir_rts0_range_alone(data, len, beyond[k], 0), NO_RANGE(26, 0));
+        }
+    }
+}
+
+/* A float has the file's bits, whatever they are. */
+static void same_bits(qollqamir_single single, uint32_t bits) {
+    volatile float value = single.value;
+    float copy = value;
+    uint32_t back;
+    memcpy(&back, &copy, sizeof back);
+    CHECK(single.bits == bits && back == bits);
+}
+
+static void test_root(void) {
+    uint8_t data[RTS0];
+    for (uint32_t version = 1; version <= 2; version++) {
+        rts0(data, version, some_lods);
+        root(data, RTS0, 0, 0);
+        for (size_t len = 0; len < 24; len++) {
+            root(data, len, 46, 0);
+        }
+        /* The first item that doesn't fit: a parameter's own bytes, its data, its ranges (which end at 140, in 1.0 at 132), the sampler. */
+        for (size_t len = 24; len < RTS0; len++) {
+            size_t end = version == 1 ? 132 : 140;
+            root(data, len, len < 36 ? 48 : len < 68 ? 50 : len < end ? 51 : 48, len < end ? 0 : 3);
+        }
+    }
+    static const uint32_t versions[] = {0, 3, 258, 0x01000001, 0xffffffff};
+    for (size_t k = 0; k < 5; k++) {
+        rts0(data, versions[k], some_lods);
+        root(data, RTS0, 47, 0);
+    }
+
+    /* The same once more in plain numbers. */
+    rts0(data, 2, some_lods);
+    qollqamir_root_data read = qollqamir_rts0_read(data, RTS0);
+    CHECK(read.version == 2 && read.parameters == 3 && read.samplers == 1 && read.flags == 0x90909090);
+    qollqamir_root_record item = qollqamir_rts0_item(data, RTS0, 0);
+    SET(item.parameter_type, QOLLQAMIR_TABLE);
+    CHECK(item.visibility == 5 && item.ranges == 2 && item.ranges_offset == 92);
+    item = qollqamir_rts0_item(data, RTS0, 1);
+    SET(item.parameter_type, QOLLQAMIR_CONSTANTS);
+    CHECK(item.visibility == 0x81818181 && item.register_number == 0x21212121 && item.space == 22 && item.count == 23);
+    item = qollqamir_rts0_item(data, RTS0, 2);
+    SET(item.parameter_type, QOLLQAMIR_UAV);
+    SET(item.flags, 33);
+    CHECK(item.visibility == 3 && item.register_number == 31 && item.space == 0x32323232);
+    item = qollqamir_rts0_item(data, RTS0, 3);
+    UNSET(item.parameter_type);
+    CHECK(item.filter == 1 && item.address_w == 4 && item.lod_bias.bits == 0x7fa00001 && item.border == 8 && item.visibility == 13);
+    /* In 1.1 the flags stand before the offset; in 1.0 there are none. */
+    qollqamir_range_record range = qollqamir_rts0_range(data, RTS0, 0, 1);
+    SET(range.flags, 0x55555555);
+    CHECK(range.range_type == 51 && range.descriptors == 52 && range.base_register == 53 && range.space == 54 && range.offset == 0xffffffff);
+    put32(data, 1);
+    range = qollqamir_rts0_range(data, RTS0, 0, 0);
+    UNSET(range.flags);
+    CHECK(range.range_type == 41 && range.space == 44 && range.offset == 45);
+    CHECK(qollqamir_rts0_range(data, RTS0, 0, 1).range_type == 46);
+    UNSET(qollqamir_rts0_item(data, RTS0, 2).flags);
+
+    /* NaNs, quiet and signalling, infinities, zeros, subnormals and others, in each of the three places. */
+    static const uint32_t patterns[] = {
+        0x7fc00000, 0xffc00000, 0x7fffffff, 0xffd23456, 0x7f800001, 0xff800001, 0x7fa00000, 0xffbfffff, 0x7f800000, 0xff800000,
+        0x00000000, 0x80000000, 0x00000001, 0x807fffff, 0x00800000, 0x3f800000, 0xc1234567, 0x7f7fffff,
+    };
+    enum { PATTERNS = sizeof patterns / sizeof *patterns };
+    for (size_t k = 0; k < PATTERNS; k++) {
+        const uint32_t lods[3] = {patterns[k], patterns[(k + 1) % PATTERNS], patterns[(k + 2) % PATTERNS]};
+        rts0(data, 2, lods);
+        root(data, RTS0, 0, 0);
+        item = qollqamir_rts0_item(data, RTS0, 3);
+        same_bits(item.lod_bias, lods[0]);
+        same_bits(item.least_lod, lods[1]);
+        same_bits(item.greatest_lod, lods[2]);
+    }
+
+    /* Each check of parameter i, where all before it are good; a sampler's place is after the parameters'. */
+    static const uint32_t kinds[3] = {0, 1, 4};
+    for (uint32_t i = 0; i < 3; i++) {
+        for (uint32_t version = 1; version <= 2; version++) {
+            rts0(data, version, some_lods);
+            uint8_t *own = data + 24 + 12 * i;
+            uint32_t size = kinds[i] == 0 || (kinds[i] == 4 && version == 1) ? 8 : 12;
+            static const uint32_t bad[] = {5, 256, 0x80000000, 0xffffffff};
+            for (int k = 0; k < 4; k++) {
+                put32(own, bad[k]);
+                put32(own + 8, 0xffffffff);
+                root(data, RTS0, 49, i);
+            }
+            put32(own, kinds[i]);
+            root(data, RTS0, 50, i);
+            static const uint32_t past[] = {1, 7, 12, 0xffffff00, 0x7fffffff};
+            for (int k = 0; k < 5; k++) {
+                put32(own + 8, RTS0 - size + past[k]);
+                root(data, RTS0, 50, i);
+            }
+            if (kinds[i] != 0) {
+                put32(own + 8, RTS0 - size);
+                root(data, RTS0, 0, 0);
+            }
+        }
+    }
+    rts0(data, 2, some_lods);
+    put32(data + 16, RTS0 - 51);
+    root(data, RTS0, 48, 3);
+    put32(data + 12, 0);
+    root(data, RTS0, 0, 0);
+    put32(data + 4, 0);
+    put32(data + 8, 0xffffffff);
+    root(data, RTS0, 0, 0);
+    put32(data + 12, 1);
+    root(data, RTS0, 48, 0);
+    /* Counts near 2^32 end at the first item outside. Item 14 would start at 192; that the bytes of 3 to 13 are no good parameters is
+       mended by types that are. */
+    rts0(data, 2, some_lods);
+    for (size_t at = 24; at < RTS0; at += 12) {
+        put32(data + at, 1);
+        put32(data + at + 8, 0);
+    }
+    static const uint32_t many[] = {15, 0x15555556, 0x15555557, 0x80000000, 0xffffffff};
+    for (int k = 0; k < 5; k++) {
+        put32(data + 4, many[k]);
+        put32(data + 12, many[(k + 1) % 5]);
+        root(data, RTS0, 48, 14);
+        same_item(qollqamir_rts0_item_alone(data, RTS0, 13), shown_item(data, 13));
+        same_item(qollqamir_rts0_item_alone(data, RTS0, many[k] - 1), NO_ITEM(48, many[k] - 1));
+        size_t all = (size_t)many[k] + many[(k + 1) % 5];
+        same_item(qollqamir_rts0_item_alone(data, RTS0, all), NO_ITEM(26, 0));
+        same_range(qollqamir_rts0_range_alone(data, RTS0, all, 0), NO_RANGE(26, 0));
+    }
+
+    /* A table's ranges: their end is exact; with none they may start at the end and not past it. */
+    static const struct { uint32_t version, count, offset; size_t number; } ends[] = {
+        {2, 0, RTS0, 0}, {2, 0, RTS0 + 1, 51}, {2, 0, 0xffffffff, 51}, {2, 1, RTS0 - 24, 0}, {2, 1, RTS0 - 23, 51}, {1, 1, RTS0 - 20, 0},
+        {1, 1, RTS0 - 19, 51}, {2, 8, 0, 0}, {2, 9, 0, 51}, {1, 9, 12, 0}, {1, 9, 13, 51}, {2, 178956971, 0, 51}, {2, 178956970, 32, 51},
+        {1, 214748365, 0, 51}, {2, 0xffffffff, 0, 51}, {1, 0xffffffff, 0xffffffff, 51}, {2, 0x0aaaaaab, 0xfffffff8, 51},
+    };
+    for (size_t k = 0; k < sizeof ends / sizeof *ends; k++) {
+        rts0(data, ends[k].version, some_lods);
+        put32(data + 60, ends[k].count);
+        put32(data + 64, ends[k].offset);
+        root(data, RTS0, ends[k].number, 0);
+    }
+
+    /* An item by itself: the others may be bad. */
+    rts0(data, 2, some_lods);
+    put32(data + 36, 5);
+    root(data, RTS0, 49, 1);
+    same_item(qollqamir_rts0_item_alone(data, RTS0, 0), shown_item(data, 0));
+    same_item(qollqamir_rts0_item_alone(data, RTS0, 1), NO_ITEM(49, 1));
+    same_item(qollqamir_rts0_item_alone(data, RTS0, 3), shown_item(data, 3));
+    same_range(qollqamir_rts0_range_alone(data, RTS0, 0, 1), shown_range(data, 0, 1));
+    same_range(qollqamir_rts0_range_alone(data, RTS0, 0, 2), NO_RANGE(26, 0));
+    same_range(qollqamir_rts0_range_alone(data, RTS0, 1, 0), NO_RANGE(49, 1));
+    same_range(qollqamir_rts0_range_alone(data, RTS0, 2, 0), NO_RANGE(26, 0));
+    put32(data, 3);
+    same_item(qollqamir_rts0_item_alone(data, RTS0, 9), NO_ITEM(47, 0));
+    same_item(qollqamir_rts0_item_alone(data, 23, 9), NO_ITEM(46, 0));
+
+    /* The refusals of opening come first: without a DXIL part 10, and with a wrong entry name only reader 3 doesn't open the container. */
+    uint8_t psv0[128], bytes[512];
+    const uint32_t size = RTS0;
+    qollqamir_written written =
+        qollqamir_assemble(name("RTS0"), 4, &size, 1, data, RTS0, name("0123456789abcdef"), 16, bytes, sizeof bytes);
+    ACCEPTED(written);
+    no_root(bytes, written.len, 3, 10, 0);
+    size_t n = shader_with(bytes, psv0, box_c(psv0, 52, 8), "RTS0", "short", 5);
+    no_root(bytes, n, 2, 46, 0);
+    no_root(bytes, n, 3, 24, 0);
+    n = shader_with(bytes, psv0, box_c(psv0, 52, 1), "rts0", data, RTS0);
+    no_root(bytes, n, 3, 26, 0);
+}
+
 /* ---- every byte of an answer */
 
-/* The calls. Those up to OPEN_DEFAULT take no edition, nor do those from DXIL_PROGRAM to SG1_NAME; those on PSV0 data alone stand in the
-   order of those on containers. */
+/* The calls. Those up to OPEN_DEFAULT take no edition, nor do those from DXIL_PROGRAM to RTS0_RANGE_ALONE; those on PSV0 data alone stand in
+   the order of those on containers. */
 enum call {
     TABLE, TABLE_PART, KNOWN, OPEN_DEFAULT, PART, PROGRAM, SIGNATURE, SIGNATURE_ELEMENT, SIGNATURE_NAME, SIGNATURE_DIFFERENCE,
-    OPEN, INFO, RESOURCE, ELEMENT, LENGTHS, VIEW, SECTION,
+    ROOT, ROOT_ITEM, ROOT_RANGE, OPEN, INFO, RESOURCE, ELEMENT, LENGTHS, VIEW, SECTION,
     PSV0_OPEN, PSV0_INFO, PSV0_RESOURCE, PSV0_ELEMENT, PSV0_LENGTHS, PSV0_VIEW, PSV0_SECTION,
-    DXIL_PROGRAM, SG1_READ, SG1_ELEMENT, SG1_ELEMENT_ALONE, SG1_NAME, WRITE_PSV0, ASSEMBLE, CALLS
+    DXIL_PROGRAM, SG1_READ, SG1_ELEMENT, SG1_ELEMENT_ALONE, SG1_NAME,
+    RTS0_READ, RTS0_ITEM, RTS0_ITEM_ALONE, RTS0_RANGE, RTS0_RANGE_ALONE, WRITE_PSV0, ASSEMBLE, CALLS
 };
 
 /* The greatest refusal number of any call is below the one, the greatest place that is come by below the other. */
-enum { NUMBERS = 46, PLACES = 5 };
+enum { NUMBERS = 52, PLACES = 16 };
 
-/* A call and what it is handed; a signature part's number is its kind. A writer's byte arguments lie end to end in bytes, and pieces has
-   their lengths. */
+/* A call and what it is handed; a signature part's number is its kind, and so is a range's. A writer's byte arguments lie end to end in
+   bytes, and pieces has their lengths. */
 struct question {
     enum call call;
     const uint8_t *bytes;
@@ -1010,6 +1323,9 @@ __attribute__((noinline)) static size_t answer(const struct question *q, uint8_t
     case SIGNATURE_ELEMENT: ANSWER(qollqamir_signature_record, qollqamir_signature_element(b, n, e, k, i))
     case SIGNATURE_NAME: ANSWER(qollqamir_span, qollqamir_signature_name(b, n, e, k, i))
     case SIGNATURE_DIFFERENCE: ANSWER(qollqamir_difference, qollqamir_signature_difference(b, n, e, k))
+    case ROOT: ANSWER(qollqamir_root_report, qollqamir_root_signature(b, n, e))
+    case ROOT_ITEM: ANSWER(qollqamir_root_record, qollqamir_root_item(b, n, e, i))
+    case ROOT_RANGE: ANSWER(qollqamir_range_record, qollqamir_root_range(b, n, e, i, k))
     case OPEN: ANSWER(qollqamir_opening, qollqamir_open(b, n, e))
     case INFO: ANSWER(qollqamir_info, qollqamir_runtime_info(b, n, e))
     case RESOURCE: ANSWER(qollqamir_resource_record, qollqamir_resource(b, n, e, i))
@@ -1029,6 +1345,11 @@ __attribute__((noinline)) static size_t answer(const struct question *q, uint8_t
     case SG1_ELEMENT: ANSWER(qollqamir_signature_record, qollqamir_sg1_element(b, n, i))
     case SG1_ELEMENT_ALONE: ANSWER(qollqamir_signature_record, qollqamir_sg1_element_alone(b, n, i))
     case SG1_NAME: ANSWER(qollqamir_span, qollqamir_sg1_name(b, n, i))
+    case RTS0_READ: ANSWER(qollqamir_root_data, qollqamir_rts0_read(b, n))
+    case RTS0_ITEM: ANSWER(qollqamir_root_record, qollqamir_rts0_item(b, n, i))
+    case RTS0_ITEM_ALONE: ANSWER(qollqamir_root_record, qollqamir_rts0_item_alone(b, n, i))
+    case RTS0_RANGE: ANSWER(qollqamir_range_record, qollqamir_rts0_range(b, n, i, k))
+    case RTS0_RANGE_ALONE: ANSWER(qollqamir_range_record, qollqamir_rts0_range_alone(b, n, i, k))
     case WRITE_PSV0:
         ANSWER(qollqamir_written, qollqamir_write_psv0(e, PIECE(0), PIECE(1), PIECE(2), PIECE(3), PIECE(4), PIECE(5), q->out, q->room))
     case ASSEMBLE: ANSWER(qollqamir_written, qollqamir_assemble(PIECE(0), q->sizes, 2, PIECE(1), PIECE(2), q->out, q->room))
@@ -1150,6 +1471,12 @@ static const struct question queries[] = {
     {.call = SIGNATURE_DIFFERENCE, .kind = QOLLQAMIR_OSG1},
     {.call = SIGNATURE_DIFFERENCE, .kind = QOLLQAMIR_PSG1},
     {.call = SIGNATURE_DIFFERENCE, .kind = PARTS},
+    {.call = ROOT},
+    {.call = ROOT_ITEM, .number = 0},
+    {.call = ROOT_ITEM, .number = 3},
+    {.call = ROOT_ITEM, .number = 9},
+    {.call = ROOT_RANGE, .number = 0, .kind = 1},
+    {.call = ROOT_RANGE, .number = 1, .kind = 0},
     {.call = OPEN},
     {.call = INFO},
     {.call = RESOURCE, .number = 0},
@@ -1203,6 +1530,17 @@ static void ask_sg1(struct question q) {
     for (q.call = SG1_READ; q.call <= SG1_NAME; q.call++) {
         for (q.number = 0; q.number < (q.call == SG1_READ ? 1 : 4); q.number++) {
             ask(&q);
+        }
+    }
+}
+
+/* Every call on root signature data, of each item and range up to one that there is not. */
+static void ask_rts0(struct question q) {
+    for (q.call = RTS0_READ; q.call <= RTS0_RANGE_ALONE; q.call++) {
+        for (q.number = 0; q.number <= (q.call == RTS0_READ ? 0 : ITEMS); q.number++) {
+            for (q.kind = 0; q.kind <= (q.call >= RTS0_RANGE ? 2 : 0); q.kind++) {
+                ask(&q);
+            }
         }
     }
 }
@@ -1312,15 +1650,23 @@ static void test_every_byte(void) {
     around(ask_sg1, (struct question){.call = SG1_READ, .len = n}, data);
     n = box_signed(bytes);
     around(ask_reader, (struct question){.call = OPEN, .len = n}, bytes);
+    for (uint32_t version = 1; version <= 2; version++) {
+        /* In the container with bytes after the sampler: one changed byte takes the size, 240, below 24. */
+        uint8_t items[240] = {0};
+        rts0(items, version, some_lods);
+        around(ask_rts0, (struct question){.call = RTS0_READ, .len = RTS0}, items);
+        n = shader_with(bytes, psv0, box_m(psv0, 24, 24), "RTS0", items, sizeof items);
+        around(ask_reader, (struct question){.call = OPEN, .len = n}, bytes);
+    }
     for (int call = 0; call < CALLS; call++) {
         CHECK(accepted[call] > 0 && refused[call] > 0);
-        if ((call >= SIGNATURE && call <= SIGNATURE_DIFFERENCE) || (call >= SG1_READ && call <= SG1_NAME)) {
-            for (int number = 43; number <= 45; number++) {
-                CHECK(refusals[call][number][0].answer_len > 0);
-            }
+        bool signature = (call >= SIGNATURE && call <= SIGNATURE_DIFFERENCE) || (call >= SG1_READ && call <= SG1_NAME);
+        bool root = (call >= ROOT && call <= ROOT_RANGE) || (call >= RTS0_READ && call <= RTS0_RANGE_ALONE);
+        for (int number = signature ? 43 : root ? 46 : NUMBERS; number <= (signature ? 45 : 51); number++) {
+            CHECK(refusals[call][number][0].answer_len > 0);
         }
     }
-    CHECK(triples >= 690);
+    CHECK(triples >= 950);
     printf("c answers: %zu calls made twice; %zu refused answers equal to that of another file, of %zu calls, numbers and places\n", asked,
            paired, triples);
 }
@@ -1348,6 +1694,10 @@ static void test_null(void) {
     for (enum call call = SG1_READ; call <= SG1_NAME; call++) {
         verdict = ask(&(struct question){.call = call});
         CHECK(verdict.number == 43 && verdict.place == 0);
+    }
+    for (enum call call = RTS0_READ; call <= RTS0_RANGE_ALONE; call++) {
+        verdict = ask(&(struct question){.call = call});
+        CHECK(verdict.number == 46 && verdict.place == 0);
     }
 
     uint8_t runtime[52] = {0}, out[64];
@@ -1388,6 +1738,7 @@ int main(void) {
     test_program();
     test_signature();
     test_difference();
+    test_root();
     test_every_byte();
     test_null();
     printf("c boundary: %d checks passed\n", checks);

@@ -60,6 +60,13 @@ pub unsafe extern "C" fn reference_difference(
 }
 
 /// # Safety
+/// `bytes` points to `len` bytes.
+#[no_mangle]
+pub unsafe extern "C" fn reference_root(bytes: *const u8, len: usize, edition: usize) -> u8 {
+    number(reference::root_report(from_raw_parts(bytes, len), edition))
+}
+
+/// # Safety
 /// `sections` points to 6 pointers and `lengths` to the 6 lengths of what they point to; `out` to `out_len` bytes.
 #[no_mangle]
 pub unsafe extern "C" fn reference_write_psv0(

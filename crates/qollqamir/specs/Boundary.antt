@@ -36,6 +36,13 @@ use Rattle.psv0_layout.specs.Handed.{handed}
 use Rattle.psv0_layout.specs.Shown.{Value, queried}
 use Rattle.psv0_writer_layout.specs.declared.Written.{Written}
 use Rattle.container_layout.specs.Container.{containerJudged}
+use Rattle.root_signature_layout.specs.Root.{numberOf as typeNumber}
+use Rattle.root_signature_layout.specs.declared.Item.{Item}
+use Rattle.root_signature_layout.specs.declared.Item.the-variants.{Constants, Descriptor, Table as RangeTable, Sampler, Unset as NoItem}
+use Rattle.root_signature_layout.specs.declared.ItemAnswer.{ItemAnswer}
+use Rattle.root_signature_layout.specs.declared.RangeAnswer.{RangeAnswer}
+use Rattle.root_signature_layout.specs.declared.RootSignature.{RootSignature}
+use Rattle.root_signature_report_layout.specs.declared.RootReport.{RootReport}
 use Rattle.signature_layout.specs.Signature.{refusedElement}
 use Rattle.signature_layout.specs.declared.Name.{Name}
 use Rattle.signature_layout.specs.declared.Name.the-variants.{At as NameAt, Unset as NoName}
@@ -51,6 +58,10 @@ use Rattle.qollqamir.specs.declared.CSignatureReport.{CSignatureReport}
 use Rattle.qollqamir.specs.declared.CSignatureElement.{CSignatureElement}
 use Rattle.qollqamir.specs.declared.CDifference.{CDifference}
 use Rattle.qollqamir.specs.declared.NameParts.{NameParts}
+use Rattle.qollqamir.specs.declared.CItem.{CItem}
+use Rattle.qollqamir.specs.declared.CRange.{CRange}
+use Rattle.qollqamir.specs.declared.CRoot.{CRoot}
+use Rattle.qollqamir.specs.declared.CRootReport.{CRootReport}
 use Rattle.qollqamir.specs.declared.CVerdict.{CVerdict}
 use Rattle.qollqamir.specs.declared.CField.{CField}
 use Rattle.qollqamir.specs.declared.CTable.{CTable}
@@ -235,6 +246,98 @@ differenceIf v Nothing = record { verdict = v; found = 0; number = 0 }
 
 unfoldable pub cDifference : DifferenceReport → CDifference
 cDifference a = differenceIf (cVerdict (a .verdict)) (a .first)
+
+-- ---- root signatures
+unfoldable pub cRoot : RootSignature → CRoot
+cRoot a =
+    record {
+      verdict = cVerdict (a .verdict);
+      version = a .header .version;
+      parameters = a .header .parameters;
+      samplers = a .header .samplers;
+      flags = a .header .flags;
+    }
+
+unfoldable pub cRootReport : RootReport → CRootReport
+cRootReport a =
+    record {
+      verdict = cVerdict (a .verdict);
+      version = a .header .version;
+      parameters = a .header .parameters;
+      samplers = a .header .samplers;
+      flags = a .header .flags;
+      start = a .start;
+      len = a .len;
+    }
+
+-- a parameter's values, with zeros where a static sampler has its own
+abbrev pub parameterFields : CVerdict → CField → ℕ → ℕ → ℕ → ℕ → ℕ → ℕ → CField → CItem
+parameterFields c t v r s n m o f =
+    record {
+      verdict = c;
+      «parameter_type» = t;
+      visibility = v;
+      «register_number» = r;
+      space = s;
+      count = n;
+      ranges = m;
+      «ranges_offset» = o;
+      flags = f;
+      filter = 0;
+      «address_u» = 0;
+      «address_v» = 0;
+      «address_w» = 0;
+      «lod_bias» = 0;
+      anisotropy = 0;
+      comparison = 0;
+      border = 0;
+      «least_lod» = 0;
+      «greatest_lod» = 0;
+    }
+
+-- the values of the item's case, and zeros; the type is the paper's number t of the case, and a float crosses as its bits
+abbrev pub itemFields : CVerdict → CField → Item → CItem
+itemFields c t (RangeTable v m o) = parameterFields c t v 0 0 0 m o (cField Unset)
+itemFields c t (Constants v r s n) = parameterFields c t v r s n 0 0 (cField Unset)
+itemFields c t (Descriptor y v r s f) = parameterFields c t v r s 0 0 0 (cField f)
+itemFields c t (Sampler a u v w b an co bo l g r s y) =
+    record {
+      verdict = c;
+      «parameter_type» = t;
+      visibility = y;
+      «register_number» = r;
+      space = s;
+      count = 0;
+      ranges = 0;
+      «ranges_offset» = 0;
+      flags = cField Unset;
+      filter = a;
+      «address_u» = u;
+      «address_v» = v;
+      «address_w» = w;
+      «lod_bias» = b .bits;
+      anisotropy = an;
+      comparison = co;
+      border = bo;
+      «least_lod» = l .bits;
+      «greatest_lod» = g .bits;
+    }
+itemFields c t NoItem = parameterFields c t 0 0 0 0 0 0 (cField Unset)
+
+unfoldable pub cItem : ItemAnswer → CItem
+cItem a = itemFields (cVerdict (a .verdict)) (cField (typeNumber (a .item))) (a .item)
+
+unfoldable pub cRange : RangeAnswer → CRange
+cRange a =
+    record {
+      verdict = cVerdict (a .verdict);
+      «range_type» = a .range .«range_type»;
+      descriptors = a .range .descriptors;
+      «base_register» = a .range .«base_register»;
+      space = a .range .space;
+      flags = cField (a .range .flags);
+      offset = a .range .offset;
+    }
 
 -- the part that a number names: 0 ISG1, 1 OSG1, 2 PSG1
 abbrev pub partNumbered : ℕ → SignaturePart

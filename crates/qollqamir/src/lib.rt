@@ -20,6 +20,11 @@ use psv0_layout::Section;
 use psv0_layout::Span;
 use psv0_layout::View;
 use psv0_writer_layout::Written;
+use root_signature_layout::Item;
+use root_signature_layout::ItemAnswer;
+use root_signature_layout::RangeAnswer;
+use root_signature_layout::RootSignature;
+use root_signature_report_layout::RootReport;
 use signature_layout::Name;
 use signature_layout::Signature;
 use signature_layout::SignatureAnswer;
@@ -43,9 +48,11 @@ ghost use Rattle.psv0_layout.specs.Judged.{opened};
 ghost use Rattle.psv0_layout.specs.Layout.{editionRead, defaultEdition};
 ghost use Rattle.psv0_layout.specs.Shown.{answered, queried};
 ghost use Rattle.psv0_writer_layout.specs.Answer as writing;
+ghost use Rattle.root_signature_layout.specs.Root.{rootOf, itemOf, itemAloneOf, rangeAnswerOf, rangeAloneOf};
+ghost use Rattle.root_signature_report_layout.specs.Reported.{rootReportOf, itemReportOf, rangeReportOf};
 ghost use Rattle.signature_layout.specs.Signature.{signatureOf, elementOf, aloneOf, viewOf as nameView};
 ghost use Rattle.wire.specs.Number.{u32At};
-ghost use Rattle.qollqamir.specs.Boundary.{cVerdict, cField, cTable, cPart, cOpening, cPsvOpening, cInfo, cResource, cElement, cLengths, cSpan, cWritten, cAssembly, stagesNumber, cHeader, cProgram, cReport, cSignature, cSignatureReport, nameParts, cSignatureElement, cDifference, partNumbered, noPart, reportNumbered, elementNumbered, differenceNumbered, viewOf, sectionNumbered, sectionVerdict, sectionShown, CShows};
+ghost use Rattle.qollqamir.specs.Boundary.{cVerdict, cField, cTable, cPart, cOpening, cPsvOpening, cInfo, cResource, cElement, cLengths, cSpan, cWritten, cAssembly, stagesNumber, cHeader, cProgram, cReport, cSignature, cSignatureReport, nameParts, cSignatureElement, cDifference, partNumbered, noPart, reportNumbered, elementNumbered, differenceNumbered, cRoot, cRootReport, parameterFields, cItem, cRange, viewOf, sectionNumbered, sectionVerdict, sectionShown, CShows};
 
 // A verdict: the refusal's number, 0 where the call accepts, and its place.
 #[repr(C)]
@@ -245,6 +252,65 @@ pub struct CDifference {
     pub verdict: CVerdict,
     pub found: usize,
     pub number: usize,
+}
+
+// A root signature: its header.
+#[repr(C)]
+pub struct CRoot {
+    pub verdict: CVerdict,
+    pub version: u32,
+    pub parameters: u32,
+    pub samplers: u32,
+    pub flags: u32,
+}
+
+// The report on a root signature: its header, and the part's data as a stretch of the container.
+#[repr(C)]
+pub struct CRootReport {
+    pub verdict: CVerdict,
+    pub version: u32,
+    pub parameters: u32,
+    pub samplers: u32,
+    pub flags: u32,
+    pub start: usize,
+    pub len: usize,
+}
+
+// An item of a root signature: the parameter's type, unset for a static sampler, and the values of its case; the others have zeros. The three
+// levels of detail cross as the file's bits, whatever they are: a caller's float has the same bytes.
+#[repr(C)]
+pub struct CItem {
+    pub verdict: CVerdict,
+    pub parameter_type: CField,
+    pub visibility: u32,
+    pub register_number: u32,
+    pub space: u32,
+    pub count: u32,
+    pub ranges: u32,
+    pub ranges_offset: u32,
+    pub flags: CField,
+    pub filter: u32,
+    pub address_u: u32,
+    pub address_v: u32,
+    pub address_w: u32,
+    pub lod_bias: u32,
+    pub anisotropy: u32,
+    pub comparison: u32,
+    pub border: u32,
+    pub least_lod: u32,
+    pub greatest_lod: u32,
+}
+
+// A range of a table.
+#[repr(C)]
+pub struct CRange {
+    pub verdict: CVerdict,
+    pub range_type: u32,
+    pub descriptors: u32,
+    pub base_register: u32,
+    pub space: u32,
+    pub flags: CField,
+    pub offset: usize,
 }
 
 fn c_verdict(v: Verdict) -> CVerdict
@@ -697,6 +763,182 @@ fn c_difference(a: DifferenceReport) -> CDifference
     }
 }
 
+fn c_root(a: RootSignature) -> CRoot
+    ensures { λ r. ⌜ r ≡ cRoot a ⌝ }
+{
+    let v = a.verdict;
+    let h = a.header;
+    CRoot {
+        verdict: c_verdict(v),
+        version: h.version,
+        parameters: h.parameters,
+        samplers: h.samplers,
+        flags: h.flags,
+    }
+}
+
+fn c_root_report(a: RootReport) -> CRootReport
+    ensures { λ r. ⌜ r ≡ cRootReport a ⌝ }
+{
+    let v = a.verdict;
+    let h = a.header;
+    CRootReport {
+        verdict: c_verdict(v),
+        version: h.version,
+        parameters: h.parameters,
+        samplers: h.samplers,
+        flags: h.flags,
+        start: a.start,
+        len: a.len,
+    }
+}
+
+// A parameter's values, with zeros where a static sampler has its own.
+fn c_parameter(
+    verdict: CVerdict,
+    kind: CField,
+    visibility: u32,
+    register: u32,
+    space: u32,
+    count: u32,
+    ranges: u32,
+    offset: u32,
+    flags: CField,
+) -> CItem
+    ensures { λ r. ⌜ r ≡ parameterFields verdict kind visibility register space count ranges offset flags ⌝ }
+{
+    CItem {
+        verdict,
+        parameter_type: kind,
+        visibility,
+        register_number: register,
+        space,
+        count,
+        ranges,
+        ranges_offset: offset,
+        flags,
+        filter: 0,
+        address_u: 0,
+        address_v: 0,
+        address_w: 0,
+        lod_bias: 0,
+        anisotropy: 0,
+        comparison: 0,
+        border: 0,
+        least_lod: 0,
+        greatest_lod: 0,
+    }
+}
+
+fn c_item(a: ItemAnswer) -> CItem
+    ensures { λ r. ⌜ r ≡ cItem a ⌝ }
+{
+    let v = a.verdict;
+    let item = a.item;
+    let c = c_verdict(v);
+    match item {
+        Item::Table {
+            visibility,
+            ranges,
+            offset,
+        } => c_parameter(
+            c,
+            CField { set: 1, value: 0 },
+            visibility,
+            0,
+            0,
+            0,
+            ranges,
+            offset,
+            UNSET,
+        ),
+        Item::Constants {
+            visibility,
+            register_number,
+            space,
+            count,
+        } => c_parameter(
+            c,
+            CField { set: 1, value: 1 },
+            visibility,
+            register_number,
+            space,
+            count,
+            0,
+            0,
+            UNSET,
+        ),
+        Item::Descriptor {
+            parameter_type,
+            visibility,
+            register_number,
+            space,
+            flags,
+        } => {
+            let f = c_field(flags);
+            let t = CField {
+                set: 1,
+                value: parameter_type,
+            };
+            c_parameter(c, t, visibility, register_number, space, 0, 0, 0, f)
+        }
+        Item::Sampler {
+            filter,
+            address_u,
+            address_v,
+            address_w,
+            lod_bias,
+            anisotropy,
+            comparison,
+            border,
+            least_lod,
+            greatest_lod,
+            register_number,
+            space,
+            visibility,
+        } => CItem {
+            verdict: c,
+            parameter_type: UNSET,
+            visibility,
+            register_number,
+            space,
+            count: 0,
+            ranges: 0,
+            ranges_offset: 0,
+            flags: UNSET,
+            filter,
+            address_u,
+            address_v,
+            address_w,
+            lod_bias: lod_bias.bits,
+            anisotropy,
+            comparison,
+            border,
+            least_lod: least_lod.bits,
+            greatest_lod: greatest_lod.bits,
+        },
+        Item::Unset => c_parameter(c, UNSET, 0, 0, 0, 0, 0, 0, UNSET),
+    }
+}
+
+fn c_range(a: RangeAnswer) -> CRange
+    ensures { λ r. ⌜ r ≡ cRange a ⌝ }
+{
+    let v = a.verdict;
+    let x = a.range;
+    let flags = x.flags;
+    let f = c_field(flags);
+    CRange {
+        verdict: c_verdict(v),
+        range_type: x.range_type,
+        descriptors: x.descriptors,
+        base_register: x.base_register,
+        space: x.space,
+        flags: f,
+        offset: x.offset as usize,
+    }
+}
+
 // A signature part by its number: 0 ISG1, 1 OSG1, any other PSG1.
 fn part_numbered(part: u32) -> SignaturePart
     ensures { λ r. ⌜ r ≡ partNumbered part ⌝ }
@@ -1061,6 +1303,70 @@ pub extern "C" fn qollqamir_signature_difference(b: &[u8], edition: usize, part:
         };
     }
     c_difference(signature_report::first_difference(b, edition, part_numbered(part)))
+}
+
+// The data of a part RTS0 alone: 46 to 51.
+#[no_mangle]
+pub extern "C" fn qollqamir_rts0_read(d: &[u8]) -> CRoot
+    ensures { λ r. ⌜ r ≡ cRoot (rootOf (now (d .entry))) ⌝ }
+{
+    c_root(root_signature::read(d))
+}
+
+// Item i of such data: 46 to 51, then 26.
+#[no_mangle]
+pub extern "C" fn qollqamir_rts0_item(d: &[u8], i: usize) -> CItem
+    ensures { λ r. ⌜ r ≡ cItem (itemOf (now (d .entry)) i) ⌝ }
+{
+    c_item(root_signature::item(d, i))
+}
+
+// Item i of such data by itself: 46, 47, 26, then 48 to 51 of its own.
+#[no_mangle]
+pub extern "C" fn qollqamir_rts0_item_alone(d: &[u8], i: usize) -> CItem
+    ensures { λ r. ⌜ r ≡ cItem (itemAloneOf (now (d .entry)) i) ⌝ }
+{
+    c_item(root_signature::item_alone(d, i))
+}
+
+// Range j of item i of such data: 46 to 51, then 26.
+#[no_mangle]
+pub extern "C" fn qollqamir_rts0_range(d: &[u8], i: usize, j: usize) -> CRange
+    ensures { λ r. ⌜ r ≡ cRange (rangeAnswerOf (now (d .entry)) i j) ⌝ }
+{
+    c_range(root_signature::range(d, i, j))
+}
+
+// Range j of item i of such data by itself: what the item by itself gives, then 26.
+#[no_mangle]
+pub extern "C" fn qollqamir_rts0_range_alone(d: &[u8], i: usize, j: usize) -> CRange
+    ensures { λ r. ⌜ r ≡ cRange (rangeAloneOf (now (d .entry)) i j) ⌝ }
+{
+    c_range(root_signature::range_alone(d, i, j))
+}
+
+// The report on a container's root signature at an edition: what opening gives, 26, then 46 to 51.
+#[no_mangle]
+pub extern "C" fn qollqamir_root_signature(b: &[u8], edition: usize) -> CRootReport
+    ensures { λ r. ⌜ r ≡ cRootReport (rootReportOf edition (now (b .entry))) ⌝ }
+{
+    c_root_report(root_signature_report::report(b, edition))
+}
+
+// Item i of it: those of the report, then 26.
+#[no_mangle]
+pub extern "C" fn qollqamir_root_item(b: &[u8], edition: usize, i: usize) -> CItem
+    ensures { λ r. ⌜ r ≡ cItem (itemReportOf edition (now (b .entry)) i) ⌝ }
+{
+    c_item(root_signature_report::item(b, edition, i))
+}
+
+// Range j of item i of it: those of the report, then 26.
+#[no_mangle]
+pub extern "C" fn qollqamir_root_range(b: &[u8], edition: usize, i: usize, j: usize) -> CRange
+    ensures { λ r. ⌜ r ≡ cRange (rangeReportOf edition (now (b .entry)) i j) ⌝ }
+{
+    c_range(root_signature_report::range(b, edition, i, j))
 }
 
 // Writes PSV0 data.

@@ -6,6 +6,8 @@ use printing::text;
 use psv0_layout::Field;
 use psv0_layout::RuntimeInfo;
 use psv0_layout::View;
+use root_signature_layout::Item;
+use root_signature_layout::RootHeader;
 use signature_layout::Name;
 use signature_report_layout::SignaturePart;
 use wire::Verdict;
@@ -445,6 +447,159 @@ fn signature_part(b: &[u8], edition: usize, part: SignaturePart) {
     }
 }
 
+// ---- the report on the root signature
+
+// A number's bits, as eight lower-case hex digits.
+fn hex_word(n: u32) {
+    hex((n / 16777216) as u8);
+    hex((n / 65536 % 256) as u8);
+    hex((n / 256 % 256) as u8);
+    hex((n % 256) as u8);
+}
+
+// How each line of an item starts.
+fn item_line(i: usize) {
+    text(b"item ");
+    number(i);
+}
+
+// Range j of item i, of data that the report has judged.
+fn root_range(d: &[u8], i: usize, j: usize) {
+    let a = root_signature::range_alone(d, i, j);
+    let r = a.range;
+    item_line(i);
+    text(b" range ");
+    number(j);
+    count_of(b" type ", r.range_type);
+    count_of(b" descriptors ", r.descriptors);
+    count_of(b" register ", r.base_register);
+    count_of(b" space ", r.space);
+    let flags = r.flags;
+    pair(b"flags", flags);
+    count_of(b" offset ", r.offset);
+    text(b"\n");
+}
+
+fn root_ranges(d: &[u8], i: usize, n: usize) {
+    let mut j = 0;
+    while j < n {
+        root_range(d, i, j);
+        j += 1;
+    }
+}
+
+// Item i of data that the report has judged: by itself, so that it costs no other item.
+fn root_item(d: &[u8], i: usize) {
+    let a = root_signature::item_alone(d, i);
+    let item = a.item;
+    item_line(i);
+    match item {
+        Item::Constants {
+            visibility,
+            register_number,
+            space,
+            count,
+        } => {
+            count_of(b" constants visibility ", visibility);
+            count_of(b" register ", register_number);
+            count_of(b" space ", space);
+            count_of(b" count ", count);
+            text(b"\n");
+        }
+        Item::Descriptor {
+            parameter_type,
+            visibility,
+            register_number,
+            space,
+            flags,
+        } => {
+            count_of(b" descriptor type ", parameter_type);
+            count_of(b" visibility ", visibility);
+            count_of(b" register ", register_number);
+            count_of(b" space ", space);
+            pair(b"flags", flags);
+            text(b"\n");
+        }
+        Item::Table {
+            visibility,
+            ranges,
+            offset: _,
+        } => {
+            count_of(b" table visibility ", visibility);
+            count_of(b" ranges ", ranges);
+            text(b"\n");
+            root_ranges(d, i, ranges as usize);
+        }
+        Item::Sampler {
+            filter,
+            address_u,
+            address_v,
+            address_w,
+            lod_bias,
+            anisotropy,
+            comparison,
+            border,
+            least_lod,
+            greatest_lod,
+            register_number,
+            space,
+            visibility,
+        } => {
+            count_of(b" sampler filter ", filter);
+            count_of(b" address_u ", address_u);
+            count_of(b" address_v ", address_v);
+            count_of(b" address_w ", address_w);
+            text(b" lod_bias ");
+            hex_word(lod_bias.bits);
+            count_of(b" anisotropy ", anisotropy);
+            count_of(b" comparison ", comparison);
+            count_of(b" border ", border);
+            text(b" least_lod ");
+            hex_word(least_lod.bits);
+            text(b" greatest_lod ");
+            hex_word(greatest_lod.bits);
+            count_of(b" register ", register_number);
+            count_of(b" space ", space);
+            count_of(b" visibility ", visibility);
+            text(b"\n");
+        }
+        Item::Unset => text(b" unset\n"),
+    }
+}
+
+fn root_items(d: &[u8], n: usize) {
+    let mut i = 0;
+    while i < n {
+        root_item(d, i);
+        i += 1;
+    }
+}
+
+fn root_header(h: RootHeader) {
+    count_of(b"version ", h.version);
+    count_of(b" parameters ", h.parameters);
+    count_of(b" samplers ", h.samplers);
+    count_of(b" flags ", h.flags);
+    text(b"\n");
+}
+
+fn root(b: &[u8], edition: usize) {
+    let r = root_signature_report::report(b, edition);
+    let h = r.header;
+    let start = r.start;
+    let len = r.len;
+    let v = r.verdict;
+    text(b"root_signature ");
+    match v {
+        Verdict::Refused(m, place) => printing::refusal(m, place),
+        Verdict::Accepted => {
+            root_header(h);
+            let end = start + len;
+            root_items(&b[start..end], h.parameters as usize + h.samplers as usize);
+        }
+    }
+}
+
 // ---- all of it
 
 fn dump(b: &[u8], edition: usize) {
@@ -465,6 +620,7 @@ fn dump(b: &[u8], edition: usize) {
     signature_part(b, edition, SignaturePart::Input);
     signature_part(b, edition, SignaturePart::Output);
     signature_part(b, edition, SignaturePart::Patch);
+    root(b, edition);
 }
 
 fn show(b: &[u8], edition: usize) {

@@ -2,13 +2,14 @@
 
 use std::array::from_fn;
 use std::collections::BTreeSet;
+use std::fmt::Debug;
 
 use qollqamir::raw;
 use reference::{Opening, Program, ProgramReport, Refusal};
 
 use crate::make::get4;
 use crate::random::Random;
-use crate::signatures;
+use crate::{roots, signatures};
 
 /// A difference, and the bytes it was seen on.
 #[derive(Debug)]
@@ -53,21 +54,37 @@ pub enum Call {
     Sg1Element,
     Sg1Alone,
     Sg1Name,
+    Root,
+    RootItem,
+    RootRange,
+    Rts0,
+    Rts0Item,
+    ItemAlone,
+    Rts0Range,
+    RangeAlone,
 }
 
-/// The numbers of the calls on a container's signature parts.
-const REPORTED: &[u8] = &[1, 2, 3, 4, 5, 6, 7, 8, 9, 10, 11, 12, 13, 14, 15, 16, 17, 18, 19, 20, 21, 22, 23, 24, 25, 26, 43, 44, 45];
+/// The numbers of opening a container at an edition, and more.
+macro_rules! opening_and {
+    ($($more:literal),*) => {
+        &[1, 2, 3, 4, 5, 6, 7, 8, 9, 10, 11, 12, 13, 14, 15, 16, 17, 18, 19, 20, 21, 22, 23, 24, 25 $(, $more)*]
+    };
+}
+
+/// The numbers of the calls on a container's signature parts, and of those on its root signature.
+const REPORTED: &[u8] = opening_and!(26, 43, 44, 45);
+const ROOTED: &[u8] = opening_and!(26, 46, 47, 48, 49, 50, 51);
 
 /// The calls, and the numbers that each can give.
-pub const CALLS: [(&str, &[u8]); 17] = [
+pub const CALLS: [(&str, &[u8]); 25] = [
     ("table", &[1, 2, 3, 4, 5, 6, 7, 8, 9]),
-    ("open", &[1, 2, 3, 4, 5, 6, 7, 8, 9, 10, 11, 12, 13, 14, 15, 16, 17, 18, 19, 20, 21, 22, 23, 24, 25]),
+    ("open", opening_and!()),
     ("default", &[1, 2, 3, 4, 5, 6, 7, 8, 9, 10, 11, 12, 13, 14, 15, 16, 17, 18, 19, 20, 21, 22, 23, 24]),
     ("psv0", &[2, 12, 13, 14, 15, 16, 17, 18, 19, 20, 21, 22, 23, 24, 25]),
     ("query", &[26]),
     ("write", &[2, 15, 16, 17, 22, 23, 24, 25, 27, 28]),
     ("assemble", &[2, 6, 9, 27, 28]),
-    ("program", &[1, 2, 3, 4, 5, 6, 7, 8, 9, 10, 11, 12, 13, 14, 15, 16, 17, 18, 19, 20, 21, 22, 23, 24, 25, 40, 41, 42]),
+    ("program", opening_and!(40, 41, 42)),
     ("dxil", &[40, 41, 42]),
     ("signature", REPORTED),
     ("element", REPORTED),
@@ -77,13 +94,24 @@ pub const CALLS: [(&str, &[u8]); 17] = [
     ("sg1 element", &[26, 43, 44, 45]),
     ("sg1 alone", &[26, 43, 44, 45]),
     ("sg1 name", &[26, 43, 44, 45]),
+    ("root", ROOTED),
+    ("root item", ROOTED),
+    ("root range", ROOTED),
+    ("rts0", &[46, 47, 48, 49, 50, 51]),
+    ("rts0 item", &[26, 46, 47, 48, 49, 50, 51]),
+    ("item alone", &[26, 46, 47, 48, 49, 50, 51]),
+    ("rts0 range", &[26, 46, 47, 48, 49, 50, 51]),
+    ("range alone", &[26, 46, 47, 48, 49, 50, 51]),
 ];
 
 /// The greatest number of documents 01 and 02 is below this.
 pub const NUMBERS: usize = 61;
 
 /// The numbers that have a place.
-pub const PLACED: [u8; 5] = [8, 9, 22, 23, 45];
+pub const PLACED: [u8; 9] = [8, 9, 22, 23, 45, 48, 49, 50, 51];
+
+/// So many places of a number are kept: of items by themselves there would be millions.
+const PLACES: usize = 1024;
 
 /// Declares what a run must have come by, and the words for it.
 macro_rules! seen {
@@ -100,7 +128,9 @@ macro_rules! seen {
 
 seen! {
     /// What no number tells: a file that edition 1 reads refused where none is named; how the stages compared and where the bitcode of
-    /// DXIL data alone ended; of signature data, why 26 was given, where elements and names stood, and how names compared with PSV0's.
+    /// DXIL data alone ended; of signature data, why 26 was given, where elements and names stood, and how names compared with PSV0's; of
+    /// root signature data, why 26 was given, where items, their data and ranges stood, what floats were shown, and what was asked for by
+    /// itself beside another that is bad.
     NewestAlone: "24 where no edition is named and edition 1 accepts",
     Unset: "stages unset",
     Equal: "stages equal",
@@ -152,6 +182,98 @@ seen! {
     PrefixOfPsv0: "a name that PSV0's begins with and goes on",
     PrefixByPsv0: "a name that begins with PSV0's and goes on",
     SameLength: "a name of the same length as PSV0's that differs",
+    AbsentRoot: "26 for an absent root signature",
+    ItemPast: "26 for an item past the count, in a container",
+    NoTable: "26 for a range of no table, in a container",
+    RangePast: "26 for a range past the count, in a container",
+    ItemPastData: "26 for an item past the count, of data",
+    ParameterNoTableData: "26 for a range of a parameter that is no table, of data",
+    SamplerNoTableData: "26 for a range of a sampler, of data",
+    RangePastData: "26 for a range past the count, of data",
+    ItemPastAlone: "26 for an item past the count, by itself, where the whole is refused",
+    NoTableAlone: "26 for a range of no table, by itself, where the whole is refused",
+    RangePastAlone: "26 for a range past the count, by itself, where the whole is refused",
+    ItemLowBits: "26 for an item whose number is another's in its low 32 bits",
+    RangeLowBits: "26 for a range whose number is another's in its low 32 bits",
+    VersionLowByte: "47 for a version that is right in its low byte",
+    OwnParameter: "48 of a parameter",
+    OwnSampler: "48 of a sampler after parameters",
+    OwnOnePast: "48 of a parameter that ends one byte past the data",
+    OwnSamplerOnePast: "48 of a sampler that ends one byte past the data",
+    OwnWraps: "48 of a parameter that 32 bits would take back inside the data",
+    OwnSamplerWraps: "48 of a sampler that 32 bits would take back inside the data",
+    ManyParameters: "48 where 12 x count is 2^32 or more",
+    ManySamplers: "48 where 52 x count is 2^32 or more",
+    TypeFive: "49 for type 5",
+    TypeLowByte: "49 for a type that is right in its low byte",
+    TypeGreatest: "49 for type 4294967295",
+    TypeOutside: "49 where the data are outside too",
+    DataOnePastTable: "50 of a table's data that end one byte past the whole",
+    DataOnePastConstants: "50 of constants that end one byte past the whole",
+    DataOnePastDescriptor: "50 of a descriptor of 1.0 that ends one byte past the whole",
+    DataOnePastFlags: "50 of a descriptor of 1.1 that ends one byte past the whole",
+    DataWraps: "50 of data that 32 bits would take back inside the whole",
+    RangesOnePast: "51 of ranges that end one byte past the data, in 1.0",
+    RangesOnePastFlags: "51 of ranges that end one byte past the data, in 1.1",
+    NoRangesPast: "51 of no ranges, one byte past the data",
+    RangesProduct: "51 where size x count is 2^32 or more",
+    RangesProductWraps: "51 where size x count is 2^32 or more and 32 bits would take the end back inside the data",
+    RangesSumWraps: "51 where 32 bits would take the sum back inside the data",
+    RootBadFirst: "a bad item, the first of several",
+    RootBadMiddle: "a bad item, a middle one",
+    RootBadLast: "a bad item, the last of several",
+    LastParameterBad: "a bad item, the last parameter before samplers",
+    FirstSamplerBad: "a bad item, the first sampler after parameters",
+    LaterOutside: "a bad item before one outside the data",
+    LaterCheckFirst: "a bad item before one that fails an earlier check, 49 or 50",
+    BadTwice: "a bad item before one that fails the same check",
+    NoParametersPast: "no parameters, past the data, accepted",
+    NoSamplersPast: "no samplers, past the data, accepted",
+    ParameterAtEnd: "a parameter that ends with the data, accepted",
+    SamplerAtEnd: "a sampler that ends with the data, accepted",
+    ParameterInHeader: "a parameter in the header, accepted",
+    SamplerInHeader: "a sampler in the header, accepted",
+    DataAtEndTable: "a table's data that end with the whole, accepted",
+    DataAtEndConstants: "constants that end with the whole, accepted",
+    DataAtEndDescriptor: "a descriptor of 1.0 that ends with the whole, accepted",
+    DataAtEndFlags: "a descriptor of 1.1 that ends with the whole, accepted",
+    RangesAtEnd: "ranges that end with the data, accepted, in 1.0",
+    RangesAtEndFlags: "ranges that end with the data, accepted, in 1.1",
+    NoRangesAtEnd: "no ranges, at the end of the data, accepted",
+    SharedData: "data of two parameters",
+    SharedRanges: "ranges of two tables",
+    Table0: "a table of 1.0",
+    Constants0: "constants of 1.0",
+    Cbv0: "a descriptor of type 2 of 1.0",
+    Srv0: "a descriptor of type 3 of 1.0",
+    Uav0: "a descriptor of type 4 of 1.0",
+    Sampler0: "a sampler of 1.0",
+    Table1: "a table of 1.1",
+    Constants1: "constants of 1.1",
+    Cbv1: "a descriptor of type 2 of 1.1",
+    Srv1: "a descriptor of type 3 of 1.1",
+    Uav1: "a descriptor of type 4 of 1.1",
+    Sampler1: "a sampler of 1.1",
+    LaterRange0: "a range after the first, of 1.0",
+    LaterRange1: "a range after the first, of 1.1",
+    FollowingRange: "a range that follows the one before it",
+    QuietNan: "a quiet NaN",
+    NegativeQuietNan: "a quiet NaN with its sign set",
+    SignallingNan: "a signalling NaN",
+    NegativeSignallingNan: "a signalling NaN with its sign set",
+    Infinity: "an infinity",
+    NegativeInfinity: "an infinity with its sign set",
+    NegativeZero: "a zero with its sign set",
+    Subnormal: "a subnormal number",
+    NegativeSubnormal: "a subnormal number with its sign set",
+    AloneBeside48: "an item by itself, accepted where the whole gives 48",
+    AloneBeside49: "an item by itself, accepted where the whole gives 49",
+    AloneBeside50: "an item by itself, accepted where the whole gives 50",
+    AloneBeside51: "an item by itself, accepted where the whole gives 51",
+    RangeBesideBad: "a range by itself, accepted where another item is bad",
+    AloneWraps: "a parameter by itself, whose place 32 bits would take back inside the data, 48",
+    AloneSamplerWraps: "a sampler by itself, whose place 32 bits would take back inside the data, 48",
+    AlonePast32: "a sampler by itself, accepted as item 2^32 or a later one",
 }
 
 /// Where index references stood, beside an index table of N numbers, that a reading or a writer answered for.
@@ -233,13 +355,18 @@ impl Hits {
     pub fn note(&mut self, call: Call, verdict: raw::Verdict) {
         let number = verdict.number;
         self.counts[call as usize][number] += 1;
-        if PLACED.contains(&(number as u8)) {
-            self.places[call as usize][number].insert(verdict.place);
+        let places = &mut self.places[call as usize][number];
+        if PLACED.contains(&(number as u8)) && places.len() < PLACES {
+            places.insert(verdict.place);
         }
     }
 
     pub fn saw(&mut self, what: Seen) {
-        self.seen[what as usize] += 1;
+        self.saw_if(what, true);
+    }
+
+    pub fn saw_if(&mut self, what: Seen, is: bool) {
+        self.seen[what as usize] += u64::from(is);
     }
 }
 
@@ -250,7 +377,7 @@ pub fn verdict_of<T>(answer: &Result<T, Refusal>) -> raw::Verdict {
     }
 }
 
-fn field(value: Option<u32>) -> raw::Field {
+pub fn field(value: Option<u32>) -> raw::Field {
     raw::Field { set: value.is_some().into(), value: value.unwrap_or(0) }
 }
 
@@ -530,6 +657,7 @@ pub fn reading(random: &mut Random, reader: &Reader, bytes: &[u8], edition: usiz
         }
         program(bytes, edition, hits)?;
         signatures::reports(random, bytes, edition, &expected, hits)?;
+        roots::reports(random, bytes, edition, &expected, hits)?;
     }
     same!(bytes, (reader.info)(bytes, edition), info_of(&expected), "{name} info {edition}");
     same!(bytes, (reader.lengths)(bytes, edition), lengths_of(&expected), "{name} lengths {edition}");
@@ -645,6 +773,27 @@ pub fn refusal_of(refusal: qollqamir::Refusal) -> Refusal {
     Refusal { number: refusal.number, place: refusal.place }
 }
 
+/// Lists longer than this are compared up to it through the safe calls.
+pub const LONG: usize = 8;
+
+/// What a safe list gives in turn is what the reference has under each number.
+pub fn in_turn<T: PartialEq + Debug>(
+    bytes: &[u8],
+    mut list: impl ExactSizeIterator<Item = T>,
+    count: usize,
+    get: impl Fn(usize) -> Result<T, Refusal>,
+    what: &str,
+) -> Check {
+    same!(bytes, list.len(), count, "safe list, {what}");
+    for i in 0..count.min(LONG) {
+        same!(bytes, list.next().ok_or(Refusal { number: 26, place: 0 }), get(i), "safe list, {what} {i}");
+    }
+    if count <= LONG {
+        same!(bytes, list.next(), None, "end of a safe list, {what}");
+    }
+    Ok(())
+}
+
 /// The safe types show what the plain calls show.
 fn wrapped(reader: &Reader, bytes: &[u8], edition: usize, opening: &Opening) -> Check {
     let refusal = refusal_of;
@@ -683,7 +832,8 @@ fn wrapped(reader: &Reader, bytes: &[u8], edition: usize, opening: &Opening) -> 
     let expected = reference::program_report(bytes, edition);
     let expected = expected.map(|r| (header_of(&r.program), r.program.bitcode, r.psv0_stage, stages_of(r.stages).1));
     same!(bytes, report, expected, "safe program {edition}");
-    signatures::wrapped(bytes, edition, &safe)
+    signatures::wrapped(bytes, edition, &safe)?;
+    roots::wrapped(bytes, edition, &safe)
 }
 
 /// A writer's call on both sides: the same verdict and length, and the same whole buffer.

@@ -1,5 +1,7 @@
 //! What must hold of the library's answers among themselves: older and newer editions, widenings, round trips.
 
+use std::fmt::Debug;
+
 use qollqamir::raw;
 
 use crate::compare::{assemble, same, shown, write, Check, Hits, Mismatch, Reader, CONTAINER, PSV0};
@@ -67,35 +69,53 @@ pub fn programs(bytes: &[u8]) -> Check {
     Ok(())
 }
 
-/// A report on a signature part with the data's bytes in the place of where they lie, and the first difference.
-fn signature(bytes: &[u8], edition: usize, part: u32) -> (raw::Verdict, usize, &[u8], raw::Difference) {
-    let report = raw::signature(bytes, edition, part);
-    let data = &bytes[report.start..report.start + report.len];
-    (report.verdict, report.count, data, raw::signature_difference(bytes, edition, part))
+/// Where the newer of two readers opens the bytes, both report the same; where the older doesn't, the newer's report gives its refusal.
+fn agree<T: PartialEq + Debug>(
+    bytes: &[u8],
+    openings: &[raw::Opening; 4],
+    reports: &[(raw::Verdict, T); 4],
+    what: std::fmt::Arguments,
+) -> Check {
+    for newer in 1..4 {
+        let older = newer - 1;
+        if openings[older].verdict.number != 0 {
+            same!(bytes, reports[newer].0, openings[older].verdict, "{what} of editions {older} and {newer}, refused by opening");
+        }
+        if openings[newer].verdict.number == 0 {
+            same!(bytes, reports[newer], reports[older], "{what} of editions {older} and {newer}");
+        }
+    }
+    Ok(())
 }
 
-/// Where both readers open the bytes, both report the same of a signature part, and the same difference where both read edition 1 or more.
-/// Where the older doesn't open them, the newer's reports give its refusal. An element by itself is what the report shows.
-pub fn signatures(bytes: &[u8]) -> Check {
-    let openings = [0, 1, 2, 3].map(|edition| raw::open(bytes, edition));
+/// A report on a signature part with the data's bytes in the place of where they lie.
+fn signature(bytes: &[u8], edition: usize, part: u32) -> (raw::Verdict, (usize, &[u8])) {
+    let report = raw::signature(bytes, edition, part);
+    (report.verdict, (report.count, &bytes[report.start..report.start + report.len]))
+}
+
+/// The report on the root signature, likewise.
+fn root(bytes: &[u8], edition: usize) -> (raw::Verdict, ([u32; 4], &[u8])) {
+    let raw::RootReport { verdict, version, parameters, samplers, flags, start, len } = raw::root_signature(bytes, edition);
+    (verdict, ([version, parameters, samplers, flags], &bytes[start..start + len]))
+}
+
+/// Readers agree on a signature part, and on its first difference where both read edition 1 or more. An element by itself is what the report
+/// shows.
+pub fn signatures(bytes: &[u8], openings: &[raw::Opening; 4]) -> Check {
     for part in 0..3 {
         let reports = [0, 1, 2, 3].map(|edition| signature(bytes, edition, part));
+        agree(bytes, openings, &reports, format_args!("signatures {part}"))?;
+        let differences = [0, 1, 2, 3].map(|edition| raw::signature_difference(bytes, edition, part));
         for newer in 1..4 {
             let older = newer - 1;
-            let (old, new) = (&reports[older], &reports[newer]);
             if openings[older].verdict.number != 0 {
-                let refused = openings[older].verdict;
-                same!(bytes, (new.0, new.3.verdict), (refused, refused), "signatures of editions {older} and {newer}, refused by opening");
-            }
-            if openings[newer].verdict.number != 0 {
-                continue;
-            }
-            same!(bytes, (new.0, new.1, new.2), (old.0, old.1, old.2), "signatures {part} of editions {older} and {newer}");
-            if openings[older].edition_read > 0 {
-                same!(bytes, new.3, old.3, "differences {part} of editions {older} and {newer}");
+                same!(bytes, differences[newer].verdict, openings[older].verdict, "differences {part} of {older} and {newer}, refused");
+            } else if openings[newer].verdict.number == 0 && openings[older].edition_read > 0 {
+                same!(bytes, differences[newer], differences[older], "differences {part} of editions {older} and {newer}");
             }
         }
-        let (_, count, data, _) = reports[0];
+        let (_, (count, data)) = reports[0];
         let start = raw::signature(bytes, 0, part).start;
         for i in 0..count.min(LONG) {
             let mut alone = raw::sg1_element_alone(data, i);
@@ -103,6 +123,22 @@ pub fn signatures(bytes: &[u8]) -> Check {
                 alone.name_start += start;
             }
             same!(bytes, alone, raw::signature_element(bytes, 0, part, i), "element {i} of part {part} by itself");
+        }
+    }
+    Ok(())
+}
+
+/// Readers agree on the root signature. An item and a range by themselves are what the report shows.
+pub fn roots(bytes: &[u8], openings: &[raw::Opening; 4]) -> Check {
+    let reports = [0, 1, 2, 3].map(|edition| root(bytes, edition));
+    agree(bytes, openings, &reports, format_args!("root signatures"))?;
+    let (_, ([_, parameters, samplers, _], data)) = reports[0];
+    for i in 0..(parameters as usize + samplers as usize).min(LONG) {
+        let alone = raw::rts0_item_alone(data, i);
+        same!(bytes, alone, raw::root_item(bytes, 0, i), "item {i} by itself");
+        if alone.ranges > 0 {
+            let last = alone.ranges as usize - 1;
+            same!(bytes, raw::rts0_range_alone(data, i, last), raw::root_range(bytes, 0, i, last), "range {last} of item {i} by itself");
         }
     }
     Ok(())
@@ -149,7 +185,10 @@ pub fn widening(random: &mut Random, pieces: &Pieces, parts: &Parts, bytes: &[u8
     same!(widened, (wide.psv0_stage, wide.stages), (narrow.psv0_stage, narrow.stages), "stages of a widening at {k}");
     for part in 0..3 {
         same!(widened, signature(&widened, k, part), signature(bytes, k, part), "signature {part} of a widening at {k}");
+        let differences = (raw::signature_difference(&widened, k, part), raw::signature_difference(bytes, k, part));
+        same!(widened, differences.0, differences.1, "difference {part} of a widening at {k}");
     }
+    same!(widened, root(&widened, k), root(bytes, k), "root signature of a widening at {k}");
     Ok(true)
 }
 

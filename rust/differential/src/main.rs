@@ -8,6 +8,7 @@ mod compare;
 mod demands;
 mod make;
 mod random;
+mod roots;
 mod signatures;
 
 use std::panic::{catch_unwind, AssertUnwindSafe};
@@ -182,7 +183,7 @@ fn vectors() -> Vec<Vec<u8>> {
 /// One container or PSV0 data, or both, looked at from every side.
 fn case(seed: u64, number: u64, vectors: &[Vec<u8>], done: &mut Done) -> Check {
     let random = &mut Random::new(seed, number);
-    match random.below(104) {
+    match random.below(106) {
         0..=3 => {
             let len = random.below(160);
             let mut bytes = random.bytes(len);
@@ -195,6 +196,7 @@ fn case(seed: u64, number: u64, vectors: &[Vec<u8>], done: &mut Done) -> Check {
             container_case(random, &bytes, done)?;
             compare::dxil(&bytes, &mut done.hits)?;
             signatures::data(random, &bytes, &mut done.hits)?;
+            roots::data(random, &bytes, &mut done.hits)?;
             psv0_case(random, &bytes, done)
         }
         4..=7 if !vectors.is_empty() => {
@@ -267,7 +269,8 @@ fn case(seed: u64, number: u64, vectors: &[Vec<u8>], done: &mut Done) -> Check {
         90..=95 => write_case(random, done),
         96..=99 => assemble_case(random, done),
         100 | 101 => dxil_case(random, done),
-        _ => signature_case(random, done),
+        102 | 103 => signature_case(random, done),
+        _ => root_case(random, done),
     }
 }
 
@@ -325,7 +328,9 @@ fn container_case(random: &mut Random, bytes: &[u8], done: &mut Done) -> Check {
     if random.one_in(3) {
         demands::editions(&CONTAINER, bytes)?;
         demands::programs(bytes)?;
-        demands::signatures(bytes)?;
+        let openings = [0, 1, 2, 3].map(|edition| qollqamir::raw::open(bytes, edition));
+        demands::signatures(bytes, &openings)?;
+        demands::roots(bytes, &openings)?;
     }
     if let Ok((_, data)) = reference::table_part(bytes, *b"DXIL") {
         compare::dxil(data, &mut done.hits)?;
@@ -334,6 +339,9 @@ fn container_case(random: &mut Random, bytes: &[u8], done: &mut Done) -> Check {
         if let Ok((_, data)) = reference::table_part(bytes, part.name()) {
             signatures::data(random, data, &mut done.hits)?;
         }
+    }
+    if let Ok((_, data)) = reference::table_part(bytes, *b"RTS0") {
+        roots::data(random, data, &mut done.hits)?;
     }
     Ok(())
 }
@@ -354,25 +362,45 @@ fn dxil_case(random: &mut Random, done: &mut Done) -> Check {
     Ok(())
 }
 
-/// Signature data alone: as made, with a flaw, damaged, cut or lengthened.
+/// Signature data alone.
 fn signature_case(random: &mut Random, done: &mut Done) -> Check {
     for _ in 0..4 {
         let count = random.below(6);
         let beside: Vec<Vec<u8>> = (0..count).map(|_| make::word(random)).collect();
-        let (data, fields) = make::signature(random, &beside);
-        signatures::data(random, &data, &mut done.hits)?;
-        let mut flawed = data.clone();
-        make::signature_flaw(random, &mut flawed);
-        signatures::data(random, &flawed, &mut done.hits)?;
-        let mut damaged = data;
-        if random.one_in(2) {
-            make::damage(random, &mut damaged, &fields);
-        } else {
-            make::resize(random, &mut damaged);
-        }
-        signatures::data(random, &damaged, &mut done.hits)?;
+        let made = make::signature(random, &beside);
+        alone_case(random, made, make::signature_flaw, signatures::data, done)?;
     }
     Ok(())
+}
+
+/// Root signature data alone.
+fn root_case(random: &mut Random, done: &mut Done) -> Check {
+    for _ in 0..4 {
+        let made = make::root(random);
+        alone_case(random, made, make::root_flaw, roots::data, done)?;
+    }
+    Ok(())
+}
+
+/// A part's data alone: as made, with a flaw, damaged, cut or lengthened.
+fn alone_case(
+    random: &mut Random,
+    (data, fields): (Vec<u8>, Vec<usize>),
+    flaw: fn(&mut Random, &mut Vec<u8>),
+    compare: fn(&mut Random, &[u8], &mut Hits) -> Check,
+    done: &mut Done,
+) -> Check {
+    compare(random, &data, &mut done.hits)?;
+    let mut flawed = data.clone();
+    flaw(random, &mut flawed);
+    compare(random, &flawed, &mut done.hits)?;
+    let mut damaged = data;
+    if random.one_in(2) {
+        make::damage(random, &mut damaged, &fields);
+    } else {
+        make::resize(random, &mut damaged);
+    }
+    compare(random, &damaged, &mut done.hits)
 }
 
 /// All calls on PSV0 data alone, and round trips.
@@ -488,6 +516,7 @@ fn longest(hits: &mut Hits) -> Check {
     let names = [*b"ISG1", *b"OSG1", *b"PSG1"].map(|name| (name, make::signature(random, &[b"POSITION".to_vec()]).0));
     let mut parts = vec![(*b"DXIL", program.clone()), (*b"PSV0", psv0.clone())];
     parts.extend(names);
+    parts.push((*b"RTS0", make::root(random).0));
     let mut bytes = make::container(random, &parts).0;
     for len in [LONGEST, LONGEST + 1] {
         bytes.resize(len, 0);
@@ -520,6 +549,7 @@ fn longest(hits: &mut Hits) -> Check {
         make::put4(&mut elements, len - 28, name as u32);
         signatures::data(random, &elements, hits)?;
     }
+    roots_far(random, hits)?;
     // 52 bytes beside the strings of edition 1; 44 beside the data of one part.
     let mut runtime = [0; 36];
     runtime[24] = 1;
@@ -528,6 +558,40 @@ fn longest(hits: &mut Hits) -> Check {
     }
     for size in [LONGEST - 44, LONGEST - 43] {
         compare::assemble(b"PRIV", &[size as u32], &data[..size], &[7; 16], &data[..LONGEST], hits).map(drop)?;
+    }
+    Ok(())
+}
+
+/// Root signature data alone, longer than a container or with more items than 16 bits count.
+fn roots_far(random: &mut Random, hits: &mut Hits) -> Check {
+    let header = |data: &mut [u8], numbers: [usize; 5]| {
+        numbers.into_iter().enumerate().for_each(|(i, number)| make::put4(data, 4 * i, number as u32));
+    };
+    // Parameters, then samplers, to the end and to one byte past it. The parameters are tables whose data are the first 8 bytes.
+    let mut data = vec![0; LONGEST + 9];
+    let len = data.len();
+    for past in [0, 1] {
+        header(&mut data, [1, 2, len - 24 + past, 0, 0]);
+        roots::data(random, &data, hits)?;
+        header(&mut data, [2, 1, 24, 2, len - 104 + past]);
+        roots::data(random, &data, hits)?;
+    }
+    // A table whose ranges end so.
+    for past in [0, 1] {
+        header(&mut data, [2, 1, 24, 0, 0]);
+        make::put4(&mut data, 32, 36);
+        make::put4(&mut data, 36, ((len - 44) / 24) as u32);
+        make::put4(&mut data, 40, (len - (len - 44) / 24 * 24 + past) as u32);
+        roots::data(random, &data, hits)?;
+    }
+    // Constants, all of the first 12 bytes; the last is bad by its type, then by its place.
+    let count = 70_000;
+    let mut data = vec![0; 24 + 12 * count];
+    data[24..].iter_mut().step_by(12).for_each(|kind| *kind = 1);
+    for (past, kind) in [(0, 1), (0, 5), (12, 1)] {
+        header(&mut data, [1, count, 24 + past, 0, 0]);
+        make::put4(&mut data, 12 + 12 * count, kind);
+        roots::data(random, &data, hits)?;
     }
     Ok(())
 }

@@ -1,4 +1,4 @@
-//! Containers, PSV0, DXIL and signature data, made at random: right ones, ones with a flaw in one place, and damaged bytes.
+//! Containers, PSV0, DXIL, signature and root signature data, made at random: right ones, ones with a flaw in one place, and damaged bytes.
 
 use reference::SignaturePart;
 
@@ -427,30 +427,47 @@ fn last_zero(data: &[u8]) -> usize {
     data.iter().rposition(|byte| *byte == 0).unwrap_or(0)
 }
 
+/// Brings records of `size` bytes, whose count and offset stand at two places, to the end of the data or past it.
+fn list_flaw(random: &mut Random, data: &mut [u8], [count_at, offset_at]: [usize; 2], size: u32) {
+    let len = data.len() as u32;
+    let (count, first) = (get4(data, count_at), get4(data, offset_at));
+    let records = size.wrapping_mul(count);
+    match random.below(7) {
+        // The records end with the data or one byte past them.
+        0 => put4(data, offset_at, len.wrapping_sub(records).wrapping_add(random.below(2) as u32)),
+        1 => {
+            put4(data, count_at, 0);
+            put4(data, offset_at, len + random.below(2) as u32);
+        }
+        2 => {
+            let most = u32::MAX / size;
+            put4(data, count_at, random.pick(&[count.wrapping_add(1), len.wrapping_sub(first) / size + 1, most, most + 1, u32::MAX]));
+        }
+        // size x count at 2^32 or past it, with the offset as it was or one from which 32 bits would come to the end of the data.
+        3 | 4 => {
+            // For this count, and for each multiple of it, 32 bits come to 0.
+            let whole = 1_u32 << (32 - size.trailing_zeros());
+            let counts =
+                [whole, whole + 1, whole.wrapping_add(count), (2 * whole).wrapping_add(count), count.wrapping_sub(whole), u32::MAX];
+            let count = random.pick(&counts);
+            put4(data, count_at, count);
+            if random.one_in(2) {
+                put4(data, offset_at, len.wrapping_sub(count.wrapping_mul(size)).wrapping_sub(random.below(3) as u32));
+            }
+        }
+        // An offset near 2^32.
+        5 => put4(data, offset_at, (random.below(len as usize + 2) as u32).wrapping_sub(records)),
+        _ => put4(data, offset_at, random.pick(&[u32::MAX, size.wrapping_neg(), 1 << 31, len, len + 1, 0, 4])),
+    }
+}
+
 /// Breaks a rule of right signature data, or comes near it.
 pub fn signature_flaw(random: &mut Random, data: &mut Vec<u8>) {
     let len = data.len() as u32;
     let (count, first) = (get4(data, 0), get4(data, 4));
     match random.below(12) {
         0 => data.truncate(random.below(9)),
-        // The elements end with the data or one byte past them.
-        1 => put4(data, 4, len - 32 * count + random.below(2) as u32),
-        2 => {
-            put4(data, 0, 0);
-            put4(data, 4, len + random.below(2) as u32);
-        }
-        3 => put4(data, 0, random.pick(&[count + 1, (len - first) / 32 + 1, (1 << 27) - 1, u32::MAX])),
-        // 32 x count at 2^32 or past it, with the offset as it was or one from which 32 bits would come to the end of the data.
-        4 | 5 => {
-            let count = random.pick(&[1 << 27, (1 << 27) + 1, (1 << 27) + count, (1 << 28) + count, (31 << 27) + count, u32::MAX]);
-            put4(data, 0, count);
-            if random.one_in(2) {
-                put4(data, 4, len.wrapping_sub(count.wrapping_mul(32)).wrapping_sub(random.below(3) as u32));
-            }
-        }
-        // An offset near 2^32.
-        6 => put4(data, 4, (32 * count).wrapping_neg().wrapping_add(random.below(len as usize + 2) as u32)),
-        7 => put4(data, 4, random.pick(&[u32::MAX, u32::MAX - 31, 1 << 31, len, len + 1, 0, 4])),
+        1..=7 => list_flaw(random, data, [0, 4], 32),
         8 => {
             let from = random.below(data.len() - 7) + 8;
             data[from..].iter_mut().for_each(|byte| *byte |= 1);
@@ -458,13 +475,185 @@ pub fn signature_flaw(random: &mut Random, data: &mut Vec<u8>) {
         _ if count > 0 => {
             let after = last_zero(data) as u32 + 1;
             for _ in 0..1 + random.below(2) {
-                let any = random.below(count as usize) as u32;
-                let i = random.pick(&[0, count / 2, count - 1, any]);
+                let i = one_of(random, count);
                 let name = random.pick(&[after, after, len, len, len + 1, u32::MAX, 1 << 31]);
                 put4(data, (first + 32 * i) as usize + 4, name);
             }
         }
         _ => (),
+    }
+}
+
+/// The first, a middle, the last or any of `count` records.
+fn one_of(random: &mut Random, count: u32) -> u32 {
+    let any = random.below(count as usize) as u32;
+    random.pick(&[0, count / 2, count - 1, any])
+}
+
+/// The size of a root signature's header, of a parameter and of a static sampler.
+pub const ROOT_HEADER: usize = 24;
+pub const PARAMETER: usize = 12;
+pub const SAMPLER: usize = 52;
+
+/// The size of the data of a parameter of a type.
+pub fn data_size(version: usize, kind: usize) -> usize {
+    match kind {
+        0 => 8,
+        1 => 12,
+        _ => 4 + 4 * version,
+    }
+}
+
+pub fn range_size(version: usize) -> usize {
+    16 + 4 * version
+}
+
+/// Places for stretches of the given lengths after `start`, in any order, and their end.
+fn spread(random: &mut Random, start: usize, lengths: &[usize]) -> (Vec<usize>, usize) {
+    let mut order = Vec::new();
+    for i in 0..lengths.len() {
+        order.insert(random.below(i + 1), i);
+    }
+    let mut places = vec![0; lengths.len()];
+    let mut end = start;
+    for i in order {
+        if random.one_in(8) {
+            end += random.below(9);
+        }
+        places[i] = end;
+        end += lengths[i];
+    }
+    (places, end)
+}
+
+/// The bits of a float, often of one that some reader would change: a NaN of either kind, an infinity, -0, a subnormal number.
+fn float(random: &mut Random) -> u32 {
+    let any = random.next() as u32;
+    let sign = any & 1 << 31;
+    match random.below(8) {
+        0 => sign,
+        1 => sign | 0x7f80_0000,
+        2 => any | 0x7fc0_0000,
+        3 => any & !0x0040_0000 | 0x7f80_0001,
+        4 => any & !0x7f80_0000 | 1,
+        5 => sign | random.pick(&[0.25_f32, 1.0, f32::MAX]).to_bits(),
+        _ => any,
+    }
+}
+
+/// Right root signature data, and where the ruling numbers stand. Lists, parameters' data and ranges stand anywhere; some are shared.
+pub fn root(random: &mut Random) -> (Vec<u8>, Vec<usize>) {
+    let version = 1 + random.below(2);
+    let (parameters, samplers) = (count(random, 4, 40), count(random, 3, 20));
+    let types: Vec<usize> = (0..parameters).map(|_| random.pick(&[0, 0, 0, 1, 2, 3, 4])).collect();
+    let ranges: Vec<usize> = types.iter().map(|kind| if *kind == 0 { count(random, 3, 12) } else { 0 }).collect();
+    let mut lengths = vec![PARAMETER * parameters, SAMPLER * samplers];
+    lengths.extend(types.iter().map(|kind| data_size(version, *kind)));
+    lengths.extend(ranges.iter().map(|ranges| range_size(version) * ranges));
+    let (places, mut end) = spread(random, ROOT_HEADER, &lengths);
+    if random.one_in(4) {
+        end += random.below(9);
+    }
+
+    let mut data = random.bytes(end);
+    for (i, number) in [version, parameters, places[0], samplers, places[1]].into_iter().enumerate() {
+        put4(&mut data, 4 * i, number as u32);
+    }
+    let (mut fields, mut offsets) = (vec![0, 4, 8, 12, 16], vec![8, 16]);
+    for (i, kind) in types.into_iter().enumerate() {
+        let (own, at, first) = (places[0] + PARAMETER * i, places[2 + i], places[2 + parameters + i]);
+        put4(&mut data, own, kind as u32);
+        put4(&mut data, own + 8, at as u32);
+        fields.extend([own, own + 8]);
+        offsets.push(own + 8);
+        if kind == 0 {
+            put4(&mut data, at, ranges[i] as u32);
+            put4(&mut data, at + 4, first as u32);
+            fields.extend([at, at + 4]);
+            offsets.push(at + 4);
+        }
+        // Ranges that follow the one before them.
+        for end in (1..=ranges[i]).map(|count| first + range_size(version) * count) {
+            if random.one_in(4) {
+                put4(&mut data, end - 4, u32::MAX);
+            }
+        }
+    }
+    for at in (0..samplers).map(|j| places[1] + SAMPLER * j) {
+        for float_at in [16, 32, 36] {
+            put4(&mut data, at + float_at, float(random));
+        }
+    }
+    // Another's place or any other, where the data stay right.
+    for _ in 0..random.below(4) {
+        let at = random.pick(&offsets);
+        let other = get4(&data, random.pick(&offsets));
+        let places = [other, other, random.below(end + 1) as u32, random.below(ROOT_HEADER) as u32];
+        let place = random.pick(&places);
+        let before = get4(&data, at);
+        put4(&mut data, at, place);
+        if reference::root_signature(&data).is_err() {
+            put4(&mut data, at, before);
+        }
+    }
+    (data, fields)
+}
+
+/// Breaks a rule of right root signature data, or comes near it; now and then at several items.
+pub fn root_flaw(random: &mut Random, data: &mut Vec<u8>) {
+    let flaw = random.below(12);
+    match flaw {
+        0 => data.truncate(random.below(ROOT_HEADER + 1)),
+        1 => put4(data, 0, random.pick(&[0, 3, 257, 258, 1 << 16 | 1, 2 << 24, u32::MAX])),
+        _ => {
+            for _ in 0..random.below(2) + usize::from(flaw >= 6) {
+                parameter_flaw(random, data);
+            }
+            if flaw < 6 {
+                list_flaw(random, data, [4, 8], PARAMETER as u32);
+            }
+            if (4..8).contains(&flaw) {
+                list_flaw(random, data, [12, 16], SAMPLER as u32);
+            }
+        }
+    }
+}
+
+/// Brings a parameter's type, its data or its ranges to an edge or past it.
+fn parameter_flaw(random: &mut Random, data: &mut [u8]) {
+    let (version, count, len) = (get4(data, 0) as usize, get4(data, 4), data.len());
+    if count == 0 {
+        return;
+    }
+    let own = get4(data, 8) as usize + PARAMETER * one_of(random, count) as usize;
+    // An earlier flaw may have struck the header.
+    if own + PARAMETER > len || ![1, 2].contains(&version) {
+        return;
+    }
+    match random.below(8) {
+        // No type; its data may be outside too.
+        0 | 1 => {
+            put4(data, own, random.pick(&[5, 5, 6, 256, 258, 1 << 16, 1 << 31, u32::MAX]));
+            if random.one_in(2) {
+                put4(data, own + 8, random.pick(&[len as u32, u32::MAX]));
+            }
+        }
+        // Data that end with the whole, one byte past it, or where 32 bits would take the end back inside.
+        2..=4 => {
+            let kind = random.below(5);
+            let (size, some) = (data_size(version, kind), random.below(len + 1));
+            let places =
+                [len.wrapping_sub(size), len.wrapping_sub(size), (len + 1).wrapping_sub(size), some.wrapping_sub(size), len, 1 << 31];
+            put4(data, own, kind as u32);
+            put4(data, own + 8, random.pick(&places) as u32);
+        }
+        _ => {
+            let at = get4(data, own + 8) as usize;
+            if at + data_size(version, 0) <= len {
+                put4(data, own, 0);
+                list_flaw(random, data, [at, at + 4], range_size(version) as u32);
+            }
+        }
     }
 }
 
@@ -475,6 +664,17 @@ fn listed(psv0: &[u8]) -> [Vec<Vec<u8>>; 3] {
         Ok(opening) => part.list(&opening.runtime).filter_map(|i| opening.string(i).ok()).map(<[u8]>::to_vec).collect(),
         Err(_) => Vec::new(),
     })
+}
+
+/// Data that are mostly right, now and then flawed or damaged.
+fn flawed(random: &mut Random, flaw: fn(&mut Random, &mut Vec<u8>), right: impl FnOnce(&mut Random) -> (Vec<u8>, Vec<usize>)) -> Vec<u8> {
+    let (mut data, fields) = right(random);
+    match random.below(12) {
+        0..=2 => flaw(random, &mut data),
+        3 => damage(random, &mut data, &fields),
+        _ => (),
+    }
+    data
 }
 
 /// The parts of a container, in order.
@@ -498,19 +698,21 @@ pub fn parts(random: &mut Random, psv0: &[u8]) -> Parts {
         parts.push((name, random.bytes(len)));
     }
     // All of these, DXIL and PSV0 are at most 96.
-    if others <= 91 && random.one_in(3) {
+    let mut more: Parts = Vec::new();
+    if others <= 90 && random.one_in(3) {
         for (part, beside) in SignaturePart::ALL.into_iter().zip(listed(psv0)) {
-            if random.one_in(2) || parts.iter().any(|other| other.0 == part.name()) {
-                continue;
+            if random.one_in(2) {
+                more.push((part.name(), flawed(random, signature_flaw, |random| signature(random, &beside))));
             }
-            let (mut data, fields) = signature(random, &beside);
-            match random.below(12) {
-                0..=2 => signature_flaw(random, &mut data),
-                3 => damage(random, &mut data, &fields),
-                _ => (),
-            }
+        }
+    }
+    if others <= 90 && random.one_in(5) {
+        more.push((*b"RTS0", flawed(random, root_flaw, root)));
+    }
+    for part in more {
+        if parts.iter().all(|other| other.0 != part.0) {
             let at = random.below(parts.len() + 1);
-            parts.insert(at, (part.name(), data));
+            parts.insert(at, part);
         }
     }
     // PSV0's stage stands at byte 24 of the runtime record, from edition 1 on.

@@ -3,12 +3,9 @@
 use qollqamir::raw;
 use reference::{Opening, Refusal, Signature, SignatureElement, SignaturePart};
 
-use crate::compare::{numbers, refusal_of, same, start_in, verdict_of, Call, Check, Hits, Seen};
+use crate::compare::{in_turn, numbers, refusal_of, same, start_in, verdict_of, Call, Check, Hits, Seen, LONG};
 use crate::make::get4;
 use crate::random::Random;
-
-/// Lists longer than this are compared up to it through the safe calls.
-const LONG: usize = 8;
 
 fn record_of(bytes: &[u8], answer: Result<SignatureElement, Refusal>) -> raw::SignatureRecord {
     let verdict = verdict_of(&answer);
@@ -59,18 +56,12 @@ fn same_signature(bytes: &[u8], safe: Result<qollqamir::Signature, Refusal>, exp
     let (Ok(safe), Ok(expected)) = (safe, expected) else {
         return Ok(());
     };
-    let mut elements = safe.elements();
-    same!(bytes, elements.len(), expected.count, "safe elements");
+    in_turn(bytes, safe.elements(), expected.count, |i| expected.element(i).map(safe_of), "elements")?;
     for i in 0..expected.count.min(LONG) {
-        let element = expected.element(i).map(safe_of);
-        same!(bytes, elements.next().ok_or(Refusal { number: 26, place: 0 }), element, "safe element {i} in turn");
-        same!(bytes, safe.element(i).map_err(refusal_of), element, "safe element {i}");
+        same!(bytes, safe.element(i).map_err(refusal_of), expected.element(i).map(safe_of), "safe element {i}");
         let (name, view) = (safe.name(i).map_err(refusal_of), expected.name(i));
         same!(bytes, name, view, "safe name {i}");
         same!(bytes, name.map(<[u8]>::as_ptr), view.map(<[u8]>::as_ptr), "place of safe name {i}");
-    }
-    if expected.count <= LONG {
-        same!(bytes, elements.next(), None, "safe elements end");
     }
     let last = expected.count;
     same!(bytes, safe.element(last).map_err(refusal_of), expected.element(last).map(safe_of), "safe element {last}");
@@ -141,11 +132,7 @@ fn note_data(data: &[u8], answer: Result<Signature, Refusal>, hits: &mut Hits) {
     let (count, first, len) = (u64::from(get4(data, 0)), u64::from(get4(data, 4)), data.len() as u64);
     let end = first + 32 * count;
     let name = |i: u64| u64::from(get4(data, (first + 32 * i + 4) as usize));
-    let mut saw = |what, is: bool| {
-        if is {
-            hits.saw(what);
-        }
-    };
+    let mut saw = |what, is| hits.saw_if(what, is);
     match answer {
         Err(Refusal { number: 44, .. }) => {
             let wraps = end % (1 << 32) <= len;

@@ -196,6 +196,61 @@ structs! {
         found: usize,
         number: usize,
     }
+
+    /// The header of a root signature: its version, its counts of parameters and static samplers, and its flags.
+    RootData {
+        verdict: Verdict,
+        version: u32,
+        parameters: u32,
+        samplers: u32,
+        flags: u32,
+    }
+
+    /// The report on a container's root signature: its header, and the part's data as a stretch of the container.
+    RootReport {
+        verdict: Verdict,
+        version: u32,
+        parameters: u32,
+        samplers: u32,
+        flags: u32,
+        start: usize,
+        len: usize,
+    }
+
+    /// An item of a root signature. `parameter_type` is 0 for a table, 1 for constants, 2 to 4 for a descriptor, and unset for a static
+    /// sampler. What its kind lacks is 0 and unset. The three levels of detail are the file's bits.
+    RootRecord {
+        verdict: Verdict,
+        parameter_type: Field,
+        visibility: u32,
+        register_number: u32,
+        space: u32,
+        count: u32,
+        ranges: u32,
+        ranges_offset: u32,
+        flags: Field,
+        filter: u32,
+        address_u: u32,
+        address_v: u32,
+        address_w: u32,
+        lod_bias: u32,
+        anisotropy: u32,
+        comparison: u32,
+        border: u32,
+        least_lod: u32,
+        greatest_lod: u32,
+    }
+
+    /// A range of a table.
+    RangeRecord {
+        verdict: Verdict,
+        range_type: u32,
+        descriptors: u32,
+        base_register: u32,
+        space: u32,
+        flags: Field,
+        offset: usize,
+    }
 }
 
 mod archive {
@@ -231,6 +286,14 @@ mod archive {
         pub fn qollqamir_signature_element(bytes: *const u8, len: usize, edition: usize, part: u32, i: usize) -> SignatureRecord;
         pub fn qollqamir_signature_name(bytes: *const u8, len: usize, edition: usize, part: u32, i: usize) -> Span;
         pub fn qollqamir_signature_difference(bytes: *const u8, len: usize, edition: usize, part: u32) -> Difference;
+        pub fn qollqamir_rts0_read(data: *const u8, len: usize) -> RootData;
+        pub fn qollqamir_rts0_item(data: *const u8, len: usize, i: usize) -> RootRecord;
+        pub fn qollqamir_rts0_item_alone(data: *const u8, len: usize, i: usize) -> RootRecord;
+        pub fn qollqamir_rts0_range(data: *const u8, len: usize, i: usize, j: usize) -> RangeRecord;
+        pub fn qollqamir_rts0_range_alone(data: *const u8, len: usize, i: usize, j: usize) -> RangeRecord;
+        pub fn qollqamir_root_signature(bytes: *const u8, len: usize, edition: usize) -> RootReport;
+        pub fn qollqamir_root_item(bytes: *const u8, len: usize, edition: usize, i: usize) -> RootRecord;
+        pub fn qollqamir_root_range(bytes: *const u8, len: usize, edition: usize, i: usize, j: usize) -> RangeRecord;
         pub fn qollqamir_write_psv0(
             edition: usize,
             runtime: *const u8,
@@ -283,7 +346,7 @@ readers! {
     table => qollqamir_table() -> Parts;
     /// Opens a container: 25, 1 to 24.
     open => qollqamir_open(edition: usize) -> Opening;
-    /// Opens a container at edition 1.
+    /// Opens a container at edition 3, the newest.
     open_default => qollqamir_open_default() -> Opening;
     /// The fields of the runtime record.
     runtime_info => qollqamir_runtime_info(edition: usize) -> Info;
@@ -331,6 +394,22 @@ readers! {
     signature_name => qollqamir_signature_name(edition: usize, part: u32, i: usize) -> Span;
     /// The first named element of the part whose name is not that of the PSV0 element beside it: those of [`signature`].
     signature_difference => qollqamir_signature_difference(edition: usize, part: u32) -> Difference;
+    /// The data of a part RTS0 alone: 46 to 51.
+    rts0_read => qollqamir_rts0_read() -> RootData;
+    /// Item `i` of such data: 46 to 51, 26.
+    rts0_item => qollqamir_rts0_item(i: usize) -> RootRecord;
+    /// Item `i` of such data by itself: 46, 47, 26, then 48 to 51 of its own.
+    rts0_item_alone => qollqamir_rts0_item_alone(i: usize) -> RootRecord;
+    /// Range `j` of item `i` of such data: 46 to 51, 26.
+    rts0_range => qollqamir_rts0_range(i: usize, j: usize) -> RangeRecord;
+    /// Range `j` of item `i` of such data by itself: those of [`rts0_item_alone`], then 26.
+    rts0_range_alone => qollqamir_rts0_range_alone(i: usize, j: usize) -> RangeRecord;
+    /// The report on a container's root signature: 25, 1 to 24, 26, 46 to 51.
+    root_signature => qollqamir_root_signature(edition: usize) -> RootReport;
+    /// Item `i` of it: those of [`root_signature`], then 26.
+    root_item => qollqamir_root_item(edition: usize, i: usize) -> RootRecord;
+    /// Range `j` of item `i` of it: those of [`root_signature`], then 26.
+    root_range => qollqamir_root_range(edition: usize, i: usize, j: usize) -> RangeRecord;
 }
 
 /// A part by its name from the table alone: 1 to 9, 26.

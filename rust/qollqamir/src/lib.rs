@@ -1,5 +1,5 @@
 //! Safe calls to the proved reader and writer of DirectX shader containers and their PSV0 part, and to the readers of the DXIL part's
-//! header and of the signature parts.
+//! header, of the signature parts and of the root signature.
 //!
 //! Any bytes get an answer: the value, or a [`Refusal`] with a number of documents 01 and 02 and a place. Views are slices of the bytes
 //! handed in. A value that the file's edition or stage lacks is `None`.
@@ -26,8 +26,10 @@
 #![warn(missing_docs)]
 
 mod calls;
+mod root;
 mod signature;
 
+pub use root::{root_signature, rts0_item_alone, rts0_range_alone, RootItem, RootRange, RootSignature};
 pub use signature::{first_difference, sg1_element_alone, signature, Elements, Signature, SignatureElement, SignaturePart};
 
 // Nothing in it can be unset, so it is shown as the call gives it.
@@ -44,12 +46,12 @@ pub type Edition = usize;
 /// The edition that [`Container::open_default`] reads as, since none is named: the newest.
 pub const DEFAULT_EDITION: Edition = 3;
 
-/// A refusal: a number of documents 01 and 02, and a place (a part or an element where the number has one, otherwise 0).
+/// A refusal: a number of documents 01 and 02, and a place (a part, an element or an item where the number has one, otherwise 0).
 #[derive(Clone, Copy, Debug, PartialEq, Eq, Hash)]
 pub struct Refusal {
-    /// 1 to 28, or 40 to 45.
+    /// 1 to 28, or 40 to 51.
     pub number: u8,
-    /// The part or element, from 0.
+    /// The part, element or item, from 0.
     pub place: usize,
 }
 
@@ -193,7 +195,7 @@ pub struct ProgramReport<'a> {
 }
 
 fn judged(verdict: raw::Verdict) -> Result<(), Refusal> {
-    match u8::try_from(verdict.number).expect("the numbers are 1 to 28 and 40 to 45") {
+    match u8::try_from(verdict.number).expect("the numbers are 1 to 28 and 40 to 51") {
         0 => Ok(()),
         number => Err(Refusal { number, place: verdict.place }),
     }
@@ -504,6 +506,11 @@ impl<'a> Container<'a> {
     /// The number of the first named element of a signature part whose name is not PSV0's, as [`first_difference`] gives it.
     pub fn first_difference(&self, part: SignaturePart) -> Result<Option<usize>, Refusal> {
         first_difference(self.bytes, self.edition, part)
+    }
+
+    /// The report on the root signature: 26 where there is none, then 46 to 51, as [`root_signature`] gives them.
+    pub fn root_signature(&self) -> Result<RootSignature<'a>, Refusal> {
+        root_signature(self.bytes, self.edition)
     }
 
     queries!(runtime_info, resource, element, lengths, view, section);

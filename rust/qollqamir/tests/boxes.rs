@@ -1,5 +1,5 @@
-//! The boxes M and C of document 01 through the safe calls, the program header and the signature parts of document 02, and the last field
-//! of every struct.
+//! The boxes M and C of document 01 through the safe calls, the program header, the signature parts and the root signature of
+//! document 02, and the last field of every struct.
 
 use qollqamir::*;
 
@@ -260,7 +260,12 @@ fn psv0_s() -> Vec<u8> {
 
 /// A container of a DXIL part, a PSV0 part and a signature part, whose data are its last bytes.
 fn with(psv0: &[u8], part: SignaturePart, data: &[u8]) -> Vec<u8> {
-    let names = [*b"DXIL", *b"PSV0", part.name()].concat();
+    with_part(psv0, part.name(), data)
+}
+
+/// The same with a part of any name.
+fn with_part(psv0: &[u8], part: [u8; 4], data: &[u8]) -> Vec<u8> {
+    let names = [*b"DXIL", *b"PSV0", part].concat();
     let all = [b"code", psv0, data].concat();
     let mut out = vec![0xee; 100 + all.len()];
     let len = assemble(&names, &[4, psv0.len() as u32, data.len() as u32], &all, &[7; 16], &mut out).unwrap();
@@ -422,4 +427,174 @@ fn a_signature_is_held_against_psv0() {
     differs(patch, &[Some(empty), Some(a)], None);
     differs(patch, &[Some(a), Some(a)], Some(0));
     differs(patch, &[Some(empty), Some(bc)], Some(1));
+}
+
+/// Root signature data of 192 bytes in version 1 or 2: a table of two ranges, constants, a descriptor and a static sampler, whose own bytes
+/// are at 24, 36, 48 and 140; the parameters' data are at 60, 68 and 80, the ranges from 92 on.
+fn rts0(version: u32, lods: [u32; 3]) -> Vec<u8> {
+    let header = [version, 3, 24, 1, 140, 0x9090_9090];
+    let parameters = [0, 5, 60, 1, 6, 68, 4, 7, 80];
+    let data = [2, 92, 21, 22, 23, 31, 32, 33];
+    let ranges = [41, 42, 43, 44, 45, 46, 51, 52, 53, 54, 55, u32::MAX];
+    let sampler = [1, 2, 3, 4, lods[0], 6, 7, 8, lods[1], lods[2], 11, 12, 13];
+    [&header[..], &parameters, &data, &ranges, &sampler].concat().into_iter().flat_map(u32::to_le_bytes).collect()
+}
+
+/// The bits of a sampler's three levels of detail.
+fn lods_of(item: RootItem) -> [u32; 3] {
+    match item {
+        RootItem::Sampler { lod_bias, least_lod, greatest_lod, .. } => [lod_bias, least_lod, greatest_lod].map(f32::to_bits),
+        other => panic!("{other:?} is no sampler"),
+    }
+}
+
+#[test]
+fn a_root_signature_is_shown() {
+    let table = RootItem::Table { visibility: 5, ranges: 2, offset: 92 };
+    let constants = RootItem::Constants { visibility: 6, register: 21, space: 22, count: 23 };
+    let descriptor = |flags| RootItem::Descriptor { parameter_type: 4, visibility: 7, register: 31, space: 32, flags };
+    let sampler = RootItem::Sampler {
+        filter: 1,
+        address_u: 2,
+        address_v: 3,
+        address_w: 4,
+        lod_bias: 1.5,
+        anisotropy: 6,
+        comparison: 7,
+        border: 8,
+        least_lod: -2.0,
+        greatest_lod: f32::MAX,
+        register: 11,
+        space: 12,
+        visibility: 13,
+    };
+    let range = |[range_type, descriptors, base_register, space]: [u32; 4], flags, offset| RootRange {
+        range_type,
+        descriptors,
+        base_register,
+        space,
+        flags,
+        offset,
+    };
+    // In 1.1 the flags stand before the offset; 1.0 has none.
+    let versions = [
+        (1, descriptor(None), [range([41, 42, 43, 44], None, 45), range([46, 51, 52, 53], None, 54)]),
+        (2, descriptor(Some(33)), [range([41, 42, 43, 44], Some(45), 46), range([51, 52, 53, 54], Some(55), u32::MAX)]),
+    ];
+    for (version, descriptor, ranges) in versions {
+        let data = rts0(version, [1.5f32.to_bits(), (-2f32).to_bits(), f32::MAX.to_bits()]);
+        let root = RootSignature::read(&data).unwrap();
+        assert_eq!((root.version(), root.parameters(), root.samplers(), root.flags()), (version, 3, 1, 0x9090_9090));
+        assert_eq!(root.data(), data);
+        let items = [table, constants, descriptor, sampler];
+        assert_eq!((root.items().len(), root.items().collect::<Vec<_>>()), (4, items.to_vec()));
+        assert_eq!((root.ranges(0).len(), root.ranges(0).collect::<Vec<_>>()), (2, ranges.to_vec()));
+        for (i, item) in items.into_iter().enumerate() {
+            assert_eq!((root.item(i), rts0_item_alone(&data, i)), (Ok(item), Ok(item)));
+            if i > 0 {
+                assert_eq!((root.ranges(i).len(), root.range(i, 0)), (0, refused(26, 0)));
+            }
+        }
+        assert_eq!((root.item(4), root.range(0, 2), root.range(4, 0)), (refused(26, 0), refused(26, 0), refused(26, 0)));
+        assert_eq!(root.ranges(usize::MAX).next(), None);
+
+        // Of a container, at every edition. The last fields of the structs.
+        let bytes = with_part(&psv0_m(24, 24), *b"RTS0", &data);
+        let start = bytes.len() - data.len();
+        for edition in 0..=3 {
+            let report = Container::open(&bytes, edition).unwrap().root_signature().unwrap();
+            assert_eq!((report, report.data().as_ptr()), (root, bytes[start..].as_ptr()));
+            assert_eq!(raw::root_signature(&bytes, edition).len, data.len());
+            assert_eq!(raw::root_item(&bytes, edition, 3).greatest_lod, f32::MAX.to_bits());
+            assert_eq!(raw::root_range(&bytes, edition, 0, 1).offset, ranges[1].offset as usize);
+        }
+        assert_eq!(raw::rts0_read(&data).flags, 0x9090_9090);
+        assert_eq!(raw::rts0_item(&data, 3).greatest_lod, f32::MAX.to_bits());
+        assert_eq!(raw::rts0_range(&data, 0, 1).offset, ranges[1].offset as usize);
+        assert_eq!(root_signature(&bytes, 4), refused(25, 0));
+        assert_eq!(root_signature(&box_m(24, 24), 3), refused(26, 0));
+    }
+}
+
+#[test]
+fn floats_have_the_files_bits() {
+    let patterns = [
+        0x7fc0_0000,
+        0xffc0_0000,
+        0x7fff_ffff,
+        0xffd2_3456,
+        0x7f80_0001,
+        0xff80_0001,
+        0x7fa0_0000,
+        0xffbf_ffff,
+        0x7f80_0000,
+        0xff80_0000,
+        0,
+        0x8000_0000,
+        1,
+        0x807f_ffff,
+        0x0080_0000,
+        0x3f80_0000,
+        0xc123_4567,
+        0x7f7f_ffff,
+    ];
+    for lods in patterns.windows(3).map(|three| [three[0], three[1], three[2]]) {
+        let data = rts0(2, lods);
+        let bytes = with_part(&psv0_m(24, 24), *b"RTS0", &data);
+        let root = root_signature(&bytes, 3).unwrap();
+        assert_eq!(lods_of(root.item(3).unwrap()), lods);
+        assert_eq!(lods_of(root.items().last().unwrap()), lods);
+        assert_eq!(lods_of(rts0_item_alone(&data, 3).unwrap()), lods);
+    }
+}
+
+#[test]
+fn a_root_signature_is_refused() {
+    let refuses = |data: &[u8], number, place| {
+        assert_eq!(RootSignature::read(data), refused(number, place));
+        let bytes = with_part(&psv0_m(24, 24), *b"RTS0", data);
+        for edition in 0..=3 {
+            assert_eq!(root_signature(&bytes, edition), refused(number, place));
+            assert_eq!(Container::open(&bytes, edition).unwrap().root_signature(), refused(number, place));
+        }
+    };
+    let changed = |changes: &[(usize, u32)]| {
+        let mut data = rts0(2, [0; 3]);
+        for (at, number) in changes {
+            put4(&mut data, *at, *number);
+        }
+        data
+    };
+    refuses(&rts0(2, [0; 3])[..23], 46, 0);
+    refuses(&rts0(0, [0; 3]), 47, 0);
+    refuses(&rts0(3, [0; 3]), 47, 0);
+    // A parameter's own bytes, its type (also where its data are outside), its data, its ranges' end, exactly; a sampler after the parameters.
+    refuses(&changed(&[(8, 181)]), 48, 0);
+    refuses(&changed(&[(36, 5), (44, u32::MAX)]), 49, 1);
+    refuses(&changed(&[(44, 181)]), 50, 1);
+    refuses(&changed(&[(64, 145)]), 51, 0);
+    refuses(&changed(&[(60, 178_956_971), (64, 0)]), 51, 0);
+    refuses(&changed(&[(60, 0), (64, 193)]), 51, 0);
+    refuses(&changed(&[(16, 141)]), 48, 3);
+    // Counts near 2^32: item 3 is read from byte 60 on, item 4 has the number at 72 for its type.
+    refuses(&changed(&[(4, u32::MAX), (12, u32::MAX)]), 49, 4);
+    assert!(RootSignature::read(&changed(&[(60, 0), (64, 192)])).is_ok());
+    assert!(RootSignature::read(&changed(&[(44, 180), (64, 144)])).is_ok());
+    // By itself an item is good whatever the others are.
+    let data = changed(&[(36, 5)]);
+    refuses(&data, 49, 1);
+    assert_eq!(rts0_item_alone(&data, 0), Ok(RootItem::Table { visibility: 5, ranges: 2, offset: 92 }));
+    assert_eq!(rts0_item_alone(&data, 1), refused(49, 1));
+    assert_eq!(rts0_range_alone(&data, 0, 1).unwrap().offset, u32::MAX);
+    assert_eq!(rts0_range_alone(&data, 0, 2), refused(26, 0));
+    assert_eq!(rts0_range_alone(&data, 1, 0), refused(49, 1));
+    assert_eq!(rts0_range_alone(&data, 2, 0), refused(26, 0));
+
+    // The refusals of opening come first: without a DXIL part 10.
+    let mut alone = vec![0; 300];
+    let len = assemble(b"RTS0", &[192], &rts0(2, [0; 3]), &[7; 16], &mut alone).unwrap();
+    assert_eq!(root_signature(&alone[..len], 3), refused(10, 0));
+    assert!(RootSignature::read(table_part(&alone[..len], *b"RTS0").unwrap().data).is_ok());
+    let bytes = with_part(&psv0_c(52, 8), *b"RTS0", b"short");
+    assert_eq!((root_signature(&bytes, 2), root_signature(&bytes, 3)), (refused(46, 0), refused(24, 0)));
 }

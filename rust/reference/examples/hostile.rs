@@ -10,7 +10,6 @@ mod common;
 use common::*;
 use reference::{open, open_psv0, table, Part, KNOWN, LONGEST_READ, MOST_PARTS, NEWEST};
 use std::collections::BTreeMap;
-use std::path::PathBuf;
 
 /// Every number that edition 1 gives for at most 65,536 bytes.
 const NUMBERS: [u8; 22] =
@@ -20,17 +19,9 @@ const NUMBERS: [u8; 22] =
 type Parts = Vec<([u8; 4], Vec<u8>)>;
 
 fn main() {
-    let mut arguments = std::env::args_os().skip(1);
-    let directory = arguments.next().map(PathBuf::from);
-    let count = match arguments.next() {
-        None => Some(3000),
-        Some(count) => count.to_str().and_then(|count| count.parse().ok()),
-    };
-    let (Some(directory), Some(count), None) = (directory, count, arguments.next()) else {
-        println!("usage: hostile DIRECTORY [COUNT]");
+    let Some((directory, count)) = directory_and_count("hostile") else {
         return;
     };
-    std::fs::create_dir_all(&directory).expect("the directory can be made");
     let mut random = Random(0x5eed_0f0d_dba1_1abe);
     let mut counts = Counts::default();
     let mut aims = NUMBERS.iter().cycle();

@@ -1,34 +1,33 @@
-//! `cargo run --release --example samples DIRECTORY` writes 3,000 made-up
-//! containers that reader 3 accepts, of all editions and eight stages, for
+//! `cargo run --release --example samples DIRECTORY [COUNT]` writes 3,000 (or
+//! COUNT) made-up containers that reader 3 accepts, of all editions and eight stages, for
 //! `compare-obj2yaml`. Index arrays are any stretches of the table, and numbers
 //! that LLVM names are among those it knows, so that LLVM reads them too. Of the
 //! signature parts some have names or sizes that LLVM or the reader refuses, and
-//! some have a number without a name.
+//! some have a number without a name; so have some of the root signatures, of both
+//! versions and with every kind of item.
 
 #[path = "../tests/common/mod.rs"]
 mod common;
 use common::*;
 use reference::SignaturePart;
-use std::path::PathBuf;
 
 fn main() {
-    let Some(directory) = std::env::args_os().nth(1).map(PathBuf::from) else {
-        println!("usage: samples DIRECTORY");
+    let Some((directory, count)) = directory_and_count("samples") else {
         return;
     };
-    std::fs::create_dir_all(&directory).expect("the directory can be made");
     let mut random = Random(0x1357_9bdf_2468_ace0);
     // Numbers of their own, which leave the other parts what they are without.
     let mut signatures = Random(0x0f1e_2d3c_4b5a_6978);
-    for number in 0..3000 {
-        let bytes = sample(&mut random, &mut signatures);
+    let mut roots = Random(0x7856_3412_f0de_bc9a);
+    for number in 0..count {
+        let bytes = sample(&mut random, &mut signatures, &mut roots);
         assert!(reference::open(&bytes, 3).is_ok());
         let path = directory.join(format!("{number:04}.bin"));
         std::fs::write(path, bytes).expect("the file can be written");
     }
 }
 
-fn sample(random: &mut Random, signatures: &mut Random) -> Vec<u8> {
+fn sample(random: &mut Random, signatures: &mut Random, roots: &mut Random) -> Vec<u8> {
     let stage = random.pick(&[0u8, 1, 2, 3, 4, 5, 13, 14]);
     let size = random.pick(&[24, 28, 36, 40, 48, 52, 52, 56]);
     let mut psv0 = Psv0::of_size(size);
@@ -68,6 +67,9 @@ fn sample(random: &mut Random, signatures: &mut Random) -> Vec<u8> {
             let names: Vec<&[u8]> = list.map(|i| opening.string(i).expect("good")).collect();
             parts.push((part.name(), signature(signatures, &names)));
         }
+    }
+    if !roots.one_in(4) {
+        parts.push((*b"RTS0", root(roots)));
     }
     let parts: Vec<(&[u8; 4], &[u8])> =
         parts.iter().map(|(name, data)| (name, &data[..])).collect();
@@ -130,6 +132,144 @@ fn spoil(random: &mut Random, data: &mut Vec<u8>, count: usize, end: usize) {
         6 => put4(data, 0, 1 << 27 | count as u32),
         _ if random.one_in(2) => data.truncate(random.below(8)),
         _ => data.truncate(random.below(end)),
+    }
+}
+
+/// The data of a root signature as compilers lay it out: parameters, their data
+/// with the ranges of each table after it, samplers. At times something is
+/// elsewhere, or not as LLVM or the reader takes it.
+fn root(random: &mut Random) -> Vec<u8> {
+    let version = random.pick(&[1u32, 2]);
+    let (parameters, samplers) = (random.below(6), random.below(3));
+    let sampler_bytes: Vec<u8> = (0..samplers).flat_map(|_| sampler(random)).collect();
+    let samplers_first = random.one_in(24);
+    let mut rest = if samplers_first { sampler_bytes.clone() } else { Vec::new() };
+    let gap = random.pick(&[0, 0, 0, 1, 4]);
+    rest.extend(random.bytes(gap));
+    let start = 24 + 12 * parameters;
+    let mut headers = Vec::new();
+    for _ in 0..parameters {
+        let kind = random.below(5) as u32;
+        let at = (start + rest.len()) as u32;
+        headers.extend(words(&[kind, known(random, 0..8), at]));
+        rest.extend(parameter(random, version, kind, at));
+    }
+    let samplers_at = if samplers_first { start } else { start + rest.len() };
+    if !samplers_first {
+        rest.extend(sampler_bytes);
+    }
+    let numbers = [version, parameters as u32, 24, samplers as u32, samplers_at as u32];
+    let mut data = words(&numbers);
+    data.extend(words(&[flags(random, 0xfff)]));
+    data.extend(headers);
+    data.extend(rest);
+    if random.one_in(4) {
+        spoil_root(random, &mut data);
+    }
+    data
+}
+
+/// The data of a parameter of that type at that place.
+fn parameter(random: &mut Random, version: u32, kind: u32, at: u32) -> Vec<u8> {
+    match kind {
+        0 => table(random, version, at),
+        1 => random.bytes(12),
+        _ => {
+            let mut data = random.bytes(8);
+            if version == 2 {
+                data.extend(words(&[flags(random, 0xe)]));
+            }
+            data
+        }
+    }
+}
+
+/// The data of a table at that place, and its ranges. At times the ranges are
+/// said to be what stands before them.
+fn table(random: &mut Random, version: u32, at: u32) -> Vec<u8> {
+    let count = random.below(4);
+    let first = if random.one_in(24) { at - 20 } else { at + 8 };
+    let mut data = words(&[count as u32, first]);
+    for _ in 0..count {
+        data.extend(words(&[known(random, 0..4)]));
+        data.extend(random.bytes(12));
+        if version == 2 {
+            data.extend(words(&[flags(random, 0x1_000f)]));
+        }
+        let any = random.below(1 << 32) as u32;
+        data.extend(words(&[random.pick(&[u32::MAX, 0, any])]));
+    }
+    data
+}
+
+/// A static sampler.
+fn sampler(random: &mut Random) -> Vec<u8> {
+    let filters = [0, 1, 4, 5, 0x10, 0x11, 0x14, 0x15, 0x55];
+    let filter = random.pick(&filters) | (random.below(4) as u32) << 7;
+    let mut data = words(&[filter, known(random, 1..6), known(random, 1..6), known(random, 1..6)]);
+    data.extend(words(&[float(random)]));
+    data.extend(random.bytes(4));
+    data.extend(words(&[known(random, 1..9), known(random, 0..5), float(random), float(random)]));
+    data.extend(random.bytes(8));
+    data.extend(words(&[known(random, 0..8)]));
+    data
+}
+
+/// A number that LLVM has a name for, and at times the next or any.
+fn known(random: &mut Random, names: std::ops::Range<u32>) -> u32 {
+    let any = random.below(1 << 32) as u32;
+    if random.one_in(200) {
+        return random.pick(&[names.end, any]);
+    }
+    names.start + any % (names.end - names.start)
+}
+
+/// Flags of which LLVM knows these, and at times any.
+fn flags(random: &mut Random, names: u32) -> u32 {
+    let any = random.below(1 << 32) as u32;
+    if random.one_in(32) {
+        any
+    } else {
+        any & names
+    }
+}
+
+/// The bits of a float: zeros, ones, subnormals, infinities, NaNs of both kinds,
+/// of both signs, and any.
+fn float(random: &mut Random) -> u32 {
+    let any = random.below(1 << 32) as u32;
+    let bits =
+        [0, 0x3f80_0000, 1, 0x007f_ffff, 0x7f7f_ffff, 0x7f80_0000, 0x7fa0_0001, 0x7fc0_0000, any];
+    random.pick(&bits) ^ (any & 1) << 31
+}
+
+/// One field or the length of a root signature as LLVM or the reader doesn't take
+/// it.
+fn spoil_root(random: &mut Random, data: &mut Vec<u8>) {
+    let number = |data: &[u8], at: usize| u32::from_le_bytes(data[at..at + 4].try_into().unwrap());
+    let length = data.len();
+    let count = number(data, 4);
+    let parameters: Vec<usize> = (0..count as usize).map(|i| 24 + 12 * i).collect();
+    let tables: Vec<usize> =
+        parameters.iter().copied().filter(|at| number(data, *at) == 0).collect();
+    match random.below(9) {
+        0 => put4(data, 0, random.pick(&[0, 3, 4, u32::MAX])),
+        1 => put4(data, 4, random.pick(&[count + 1, u32::MAX])),
+        2 => put4(data, 12, random.pick(&[3, 1 << 28, u32::MAX])),
+        3 => put4(data, 16, (length - random.below(52)) as u32),
+        4 => data.truncate(random.below(24)),
+        5 => data.truncate(24 + random.below(length - 23)),
+        6 | 7 if !tables.is_empty() => {
+            // Its range count or their offset.
+            let at = number(data, random.pick(&tables) + 8) as usize + random.pick(&[0, 4, 4]);
+            put4(data, at, random.pick(&[5, length as u32, length as u32 + 1, u32::MAX]));
+        }
+        8 if count > 0 => put4(data, random.pick(&parameters), random.pick(&[5, 6, u32::MAX])),
+        _ if count > 0 => {
+            let edges = [length - 12, length - 11, length - 8, length - 7, length];
+            put4(data, random.pick(&parameters) + 8, random.pick(&edges) as u32);
+        }
+        _ => {}
     }
 }
 

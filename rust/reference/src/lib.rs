@@ -1,8 +1,8 @@
 //! A reader and writer of DirectX containers and their PSV0 part, and a reader
-//! of the DXIL part's header and of the signature parts, written from documents
-//! 000, 001 and 01 and requests 1 to 3 and 5 of 02 alone. It is a second opinion:
-//! every rule stands here as directly as it can be said, so that another reader
-//! can be held against it.
+//! of the DXIL part's header, of the signature parts and of the root signature,
+//! written from documents 000, 001 and 01 and requests 1 to 3, 5 and 6 of 02
+//! alone. It is a second opinion: every rule stands here as directly as it can be
+//! said, so that another reader can be held against it.
 //!
 //! * [`table`] reads the part table (refusals 1 to 9).
 //! * [`open`] opens a whole container, [`open_psv0`] PSV0 data alone; both give
@@ -12,10 +12,13 @@
 //! * [`signature`] reads the data of a signature part (refusals 43 to 45),
 //!   [`signature_element`] one element of it by itself, [`signature_report`] a
 //!   part of a container; [`first_difference`] compares its names with PSV0's.
+//! * [`root_signature`] reads the data of RTS0 (refusals 46 to 51), [`root_item`]
+//!   and [`root_range`] one item or range of it by itself, [`root_report`] that of
+//!   a container.
 //! * [`write_psv0`] and [`assemble`] write, and [`plain`] says whether PSV0 data
 //!   has the form in which the writer would write it.
-//! * [`show`] prints all that an opening and the report on the program show, and
-//!   [`inspect`] what the small program does: the part table, or the refusal.
+//! * [`show`] prints all that an opening and the reports show, and [`inspect`]
+//!   what the small program does: the part table, or the refusal.
 
 #![forbid(unsafe_code)]
 // Sizes are judged with the words of the papers: `% 4`, `(v + 7) / 8`.
@@ -24,6 +27,7 @@
 mod inspect;
 mod program;
 mod psv0;
+mod root;
 mod show;
 mod signature;
 mod table;
@@ -34,6 +38,9 @@ pub use program::{program, program_report, Program, ProgramReport, Stages};
 pub use psv0::{
     open, open_default, open_psv0, open_psv0_default, Element, Handed, Layout, Opening, Resource,
     Runtime,
+};
+pub use root::{
+    root_item, root_range, root_report, root_signature, RootItem, RootRange, RootSignature,
 };
 pub use show::show;
 pub use signature::{
@@ -71,7 +78,7 @@ pub(crate) const LEAST_RECORD: usize = 16;
 pub(crate) const LONG_RESOURCE: usize = 24;
 
 /// The answer to bytes, queries or sections that break a rule: the number in
-/// the table of refusals, and the place (a part or an element, otherwise 0).
+/// the table of refusals, and the place (a part, an element or an item, otherwise 0).
 #[derive(Clone, Copy, Debug, PartialEq, Eq, Hash)]
 pub struct Refusal {
     pub number: u8,
@@ -91,7 +98,7 @@ pub(crate) fn refusal(number: u8) -> Refusal {
     Refusal { number, place: 0 }
 }
 
-/// A refusal at a part or element.
+/// A refusal at a part, element or item.
 pub(crate) fn refusal_at(number: u8, place: usize) -> Refusal {
     Refusal { number, place }
 }

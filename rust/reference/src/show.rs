@@ -1,7 +1,8 @@
-//! All that an opening, its queries and the reports on its program and its
-//! signature parts show, one item a line.
+//! All that an opening, its queries and the reports on its program, its signature
+//! parts and its root signature show, one item a line.
 
-use crate::{known, open, program, signature, Opening, Part, SignaturePart, Stages};
+use crate::{known, open, program, root, signature};
+use crate::{Opening, Part, RootItem, RootSignature, SignaturePart, Stages};
 use std::fmt::Write;
 
 /// The lines for a container at an edition; every line ends with a line feed.
@@ -111,7 +112,7 @@ fn lines(opening: &Opening, text: &mut String) -> std::fmt::Result {
     for part in SignaturePart::ALL {
         signature_lines(opening, part, text)?;
     }
-    Ok(())
+    root_lines(opening, text)
 }
 
 /// The program header, or its refusal.
@@ -168,6 +169,87 @@ fn signature_lines(opening: &Opening, part: SignaturePart, text: &mut String) ->
         None => String::from("none"),
     };
     writeln!(text, "{head} first_difference {first}")
+}
+
+/// The root signature and its items, or its refusal.
+fn root_lines(opening: &Opening, text: &mut String) -> std::fmt::Result {
+    let root = match root::report(opening) {
+        Err(refusal) => return writeln!(text, "root_signature {refusal}"),
+        Ok(root) => root,
+    };
+    writeln!(
+        text,
+        "root_signature version {} parameters {} samplers {} flags {}",
+        root.version, root.parameters, root.samplers, root.flags
+    )?;
+    for i in 0..root.parameters as usize + root.samplers as usize {
+        item_lines(&root, i, text)?;
+    }
+    Ok(())
+}
+
+/// An item, and the ranges of a table after it.
+fn item_lines(root: &RootSignature, i: usize, text: &mut String) -> std::fmt::Result {
+    match root.item(i).expect("every item below the counts is there") {
+        RootItem::Constants { visibility, register, space, count } => writeln!(
+            text,
+            "item {i} constants visibility {visibility} register {register} space {space} \
+             count {count}"
+        ),
+        RootItem::Descriptor { kind, visibility, register, space, flags } => writeln!(
+            text,
+            "item {i} descriptor type {kind} visibility {visibility} register {register} \
+             space {space} flags {}",
+            value(flags)
+        ),
+        RootItem::Table { visibility, ranges, .. } => {
+            writeln!(text, "item {i} table visibility {visibility} ranges {ranges}")?;
+            (0..ranges as usize).try_for_each(|j| range_line(root, i, j, text))
+        }
+        RootItem::Sampler {
+            filter,
+            address_u,
+            address_v,
+            address_w,
+            lod_bias,
+            anisotropy,
+            comparison,
+            border,
+            least_lod,
+            greatest_lod,
+            register,
+            space,
+            visibility,
+        } => writeln!(
+            text,
+            "item {i} sampler filter {filter} address_u {address_u} address_v {address_v} \
+             address_w {address_w} lod_bias {} anisotropy {anisotropy} comparison {comparison} \
+             border {border} least_lod {} greatest_lod {} register {register} space {space} \
+             visibility {visibility}",
+            bits(lod_bias),
+            bits(least_lod),
+            bits(greatest_lod)
+        ),
+    }
+}
+
+fn range_line(root: &RootSignature, i: usize, j: usize, text: &mut String) -> std::fmt::Result {
+    let r = root.range(i, j).expect("every range below the count is there");
+    writeln!(
+        text,
+        "item {i} range {j} type {} descriptors {} register {} space {} flags {} offset {}",
+        r.kind,
+        r.descriptors,
+        r.register,
+        r.space,
+        value(r.flags),
+        r.offset
+    )
+}
+
+/// The bits of a float as eight lower-case hex digits.
+fn bits(float: f32) -> String {
+    format!("{:08x}", float.to_bits())
 }
 
 /// A part as both programs list it: name, header offset, size, and whether the

@@ -19,10 +19,11 @@ mask 9 unset
 mask 10 unset
 ";
 
-/// The lines of a container without signature parts.
+/// The lines of a container without signature parts and root signature.
 const NO_SIGNATURES: &str = "signature ISG1 refused 26 0
 signature OSG1 refused 26 0
 signature PSG1 refused 26 0
+root_signature refused 26 0
 ";
 
 #[test]
@@ -174,6 +175,7 @@ mask 6 exclusive_mask 7 precision 8
 signature PSG1 1 name unset name_offset 0 index 2 stream 1 system_value 3 component 4 register 5 \
 mask 6 exclusive_mask 7 precision 8
 signature PSG1 first_difference none
+root_signature refused 26 0
 ",
         107 + psv0,
         107 + psv0 + 15,
@@ -195,7 +197,7 @@ signature PSG1 first_difference none
     // For reader 0 every name is missing in PSV0.
     let shown = show(&bytes, 0);
     assert!(shown.contains("\nsignature ISG1 first_difference 0\nsignature OSG1 refused 43 0\n"));
-    assert!(shown.ends_with("\nsignature PSG1 first_difference 0\n"));
+    assert!(shown.ends_with("\nsignature PSG1 first_difference 0\nroot_signature refused 26 0\n"));
 }
 
 /// What follows the line of mask 10, up to the signature parts.
@@ -258,6 +260,7 @@ fn the_signature_parts() {
 signature ISG1 first_difference none
 signature OSG1 refused 44 0
 signature PSG1 refused 45 1
+root_signature refused 26 0
 "
     );
     assert_eq!(
@@ -266,6 +269,7 @@ signature PSG1 refused 45 1
 signature OSG1 refused 26 0
 signature PSG1 elements 0
 signature PSG1 first_difference none
+root_signature refused 26 0
 "
     );
     // Names are quoted as strings are.
@@ -280,6 +284,7 @@ signature OSG1 elements 1
 signature OSG1 0 name " ~\x22\x5ca\x1f\x7f\x80\xff\x0a" name_offset 40 index 0 stream 0 system_value 0 component 0 register 0 mask 0 exclusive_mask 0 precision 0
 signature OSG1 first_difference 0
 signature PSG1 refused 26 0
+root_signature refused 26 0
 "#
     );
 }

@@ -3,6 +3,7 @@
 #![allow(dead_code)]
 
 use reference::Refusal;
+use std::path::PathBuf;
 
 /// A refusal as the tests write it.
 pub fn refused<T>(number: u8, place: usize) -> Result<T, Refusal> {
@@ -403,4 +404,21 @@ pub fn damage(random: &mut Random, bytes: &mut Vec<u8>) {
         let length = bytes.len() as u32;
         put4(bytes, 24, length);
     }
+}
+
+/// The words of an example that writes containers: a directory, which is made, and
+/// how many (3,000 where it isn't said). None, and a line, where they are others.
+pub fn directory_and_count(example: &str) -> Option<(PathBuf, usize)> {
+    let mut words = std::env::args_os().skip(1);
+    let directory = words.next().map(PathBuf::from);
+    let count = match words.next() {
+        None => Some(3000),
+        Some(count) => count.to_str().and_then(|count| count.parse().ok()),
+    };
+    let (Some(directory), Some(count), None) = (directory, count, words.next()) else {
+        println!("usage: {example} DIRECTORY [COUNT]");
+        return None;
+    };
+    std::fs::create_dir_all(&directory).expect("the directory can be made");
+    Some((directory, count))
 }

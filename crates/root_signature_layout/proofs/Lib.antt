@@ -1,0 +1,4 @@
+pub mod Boxes
+pub mod Floats
+pub mod Roots
+pub mod Steps

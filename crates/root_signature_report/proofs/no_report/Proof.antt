@@ -1,0 +1,11 @@
+use borrow.Author.Needs.{needs}
+use Rattle.root_signature_report.proofs.no_report.Statement.{statement}
+use Rattle.root_signature_report.proofs.no_report.Tie as tie
+
+returns : tie.Need-returns
+returns c = rw (c .no-header .ensures)
+
+pub no-report-spec : {M : Type 1} → statement M
+no-report-spec = tie.close (tie.spec
+    (λ c κs. search needs)
+    returns)
