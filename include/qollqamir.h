@@ -223,7 +223,8 @@ typedef struct {
     size_t len;
 } qollqamir_root_report;
 
-/* A float of the file, whatever its bits: both members have the file's four bytes. */
+/* A float of the file, whatever its bits: both members have the file's four bytes. (C++ leaves reading the other member of a union open: there,
+   copy the bits with memcpy.) */
 typedef union {
     uint32_t bits;
     float value;
