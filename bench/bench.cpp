@@ -449,7 +449,7 @@ static void hostile() {
     };
     double usual = round_ns;
     round_ns = 1e6;
-    printf("\nhostile files, ns a call beside a plain pass over the same bytes (target: at most twice a plain pass)\n");
+    printf("\nhostile files, ns a call beside a plain pass over the same bytes (target: at most four plain passes)\n");
     printf("%-30s %11s %11s %11s %11s %9s %9s %9s\n", "", "open", "string 7", "pass", "vectorized", "open", "string", "open/vec");
     for (auto &[name, b] : files) {
         auto verdict = qollqamir_open(b.data(), b.size(), 3).verdict;
@@ -555,7 +555,7 @@ static void signatures() {
     };
     double usual = round_ns;
     round_ns = 1e6;
-    printf("\nsignature parts of 16 MB, ns a call beside a plain pass over the container (target for the report: at most twice a plain pass)\n");
+    printf("\nsignature parts of 16 MB, ns a call beside a plain pass over the container (target for the report: at most six plain passes)\n");
     printf("%-30s %11s %11s %11s %11s %9s %9s\n", "", "report", "difference", "ref. report", "pass", "report", "diff.");
     for (auto &c : cases) {
         const Bytes &b = c.bytes;
@@ -577,6 +577,181 @@ static void signatures() {
         ratio(t.ratio(1, 3));
         printf("\n");
     }
+    round_ns = usual;
+}
+
+// Numbers that look random and are the same in every run.
+struct Numbers {
+    uint64_t state = 1;
+    uint32_t next() {
+        state = state * 6364136223846793005u + 1442695040888963407u;
+        return uint32_t(state >> 33);
+    }
+};
+
+// Well-formed text with sequences of these lengths, in no order, filled up with letters to a length that ends with a zero.
+static Bytes text_of(size_t len, const std::vector<size_t> &lengths) {
+    static const char *const letters[] = {"a", "\xc3\xa9", "\xe2\x82\xac", "\xf0\x9f\x98\x80"};
+    Numbers random;
+    Bytes b;
+    while (b.size() + 5 < len) {
+        const char *letter = letters[lengths[random.next() % lengths.size()] - 1];
+        b.insert(b.end(), letter, letter + strlen(letter));
+    }
+    b.resize(len - 1, 'a');
+    b.push_back(0);
+    return b;
+}
+
+// Places at which a sequence begins, all over a part of some text.
+static std::vector<uint32_t> places_in(const Bytes &text, size_t from, size_t to, size_t count) {
+    Numbers random;
+    std::vector<uint32_t> places;
+    while (places.size() < count) {
+        size_t at = from + random.next() % (to - from);
+        while (at > from && text[at] / 64 == 2)
+            at--;
+        places.push_back(uint32_t(at));
+    }
+    return places;
+}
+
+struct Strings {
+    std::string name;
+    Bytes text;
+    std::vector<uint32_t> places;
+    // What judging the names gives, and at which of them.
+    bool good;
+    size_t place;
+};
+
+// Long texts, with so many references into each.
+static std::vector<Strings> long_strings(size_t len, size_t count) {
+    std::vector<Strings> all;
+    auto add = [&](const std::string &name, const Bytes &text, const std::vector<uint32_t> &places) {
+        all.push_back({name, text, places, true, 0});
+    };
+    auto whole = [&](const std::string &name, const Bytes &text) { add(name, text, places_in(text, 0, len - 1, count)); };
+    Bytes ascii = text_of(len, {1}), mixed = text_of(len, {1, 2, 3, 4});
+    whole("ASCII, one string", ascii);
+    whole("two bytes a letter", text_of(len, {2}));
+    whole("three bytes a letter", text_of(len, {3}));
+    whole("four bytes a letter", text_of(len, {4}));
+    whole("mixed letters, one string", mixed);
+    // Long strings in turn.
+    Bytes four = mixed;
+    for (size_t k = 1; k < 4; k++) {
+        size_t at = len * k / 4;
+        std::fill(four.begin() + at, four.begin() + at + 4, 'a');
+        four[at + 3] = 0;
+        while (four[--at] / 64 == 2)
+            four[at] = 'a';
+        four[at] = 'a';
+    }
+    std::vector<uint32_t> turns(count);
+    for (size_t k = 0; k < 4; k++) {
+        auto places = places_in(four, len * k / 4 + 4, len * (k + 1) / 4 - 8, count / 4 + 1);
+        for (size_t i = k; i < count; i += 4)
+            turns[i] = places[i / 4];
+    }
+    add("four strings in turn", four, turns);
+    // One byte that is no sequence: past every reference, before them all, at the end of the last string alone.
+    Bytes fault = ascii;
+    fault[len - 3] = 0;
+    fault[len - 2] = 0x80;
+    add("ASCII, fault past them all", fault, places_in(fault, 0, len - 3, count));
+    fault = mixed;
+    fault[0] = 0x80;
+    add("mixed, fault before them all", fault, places_in(fault, 8, len - 1, count));
+    fault[0] = 'a';
+    fault[len - 2] = 0x80;
+    all.push_back({"mixed, fault at the very end", fault, places_in(fault, 0, len - 5, count), false, 0});
+    fault[len - 3] = 0;
+    auto places = places_in(fault, 0, len - 8, count);
+    places[count - 1] = uint32_t(len - 2);
+    all.push_back({"mixed, then a bad short one", fault, places, false, count - 1});
+    // Bytes that are no text: each reference leads to a zero byte.
+    Numbers random;
+    Bytes noise(len);
+    std::vector<uint32_t> zeros;
+    for (auto &byte : noise)
+        byte = uint8_t(random.next());
+    noise[len - 1] = 0;
+    while (zeros.size() < count) {
+        size_t at = random.next() % len;
+        while (noise[at])
+            at++;
+        zeros.push_back(uint32_t(at));
+    }
+    add("random bytes", noise, zeros);
+    Bytes following(len, 0x80);
+    following[len - 1] = 0;
+    add("bytes that follow alone", following, std::vector<uint32_t>(count, uint32_t(len - 1)));
+    return all;
+}
+
+// Whether strings are well formed, for as many references as there can be: opening a container, and a report on a signature part.
+static void utf8() {
+    double usual = round_ns;
+    round_ns = 1e6;
+    printf("\nstrings of 16 MB, 765 references and the entry name, ns a call beside a plain pass (target for an opening: at most four plain passes)\n");
+    printf("%-30s %11s %11s %11s %11s %9s %9s %9s\n", "", "open", "string 7", "pass", "vectorized", "open", "string", "open/vec");
+    for (auto &c : long_strings(16764000, 765)) {
+        Bytes psv0 = psv0_of(0, 765, 0, c.text, 1);
+        put(psv0, 4 + 48, c.places[0]);
+        for (size_t e = 0; e < 765; e++)
+            put(psv0, psv0.size() - 765 * 16 + 16 * e, c.places[e]);
+        Bytes b = with_psv0(psv0);
+        auto verdict = qollqamir_open(b.data(), b.size(), 3).verdict;
+        require(b.size() <= 16777216 && verdict.number == (c.good ? 0u : 22u) && verdict.place == c.place, c.name);
+        require(verdict.number == reference_open(b.data(), b.size(), 3), c.name);
+        auto t = measure({open_at(b, 3), c.good ? string_of(b, 7) : nullptr, repeat([&] { return pass_bytewise(b.data(), b.size()); }),
+                          repeat([&] { return pass_vectorized(b.data(), b.size()); })});
+        printf("%-30s", c.name.c_str());
+        for (size_t k = 0; k < 4; k++)
+            cell(t[k]);
+        ratio(t.ratio(0, 2));
+        ratio(t.ratio(1, 2));
+        ratio(t.ratio(0, 3));
+        printf("\n");
+    }
+    printf("\nsignature parts of 16 MB, 262,143 names into 8 MB, ns a call beside a plain pass (target for a report: at most six plain passes)\n");
+    printf("%-30s %11s %11s %11s %9s\n", "", "report", "ref. report", "pass", "report");
+    auto report_row = [](const std::string &name, const Bytes &isg1, size_t number, size_t place) {
+        Parts p;
+        p.add("DXIL", Bytes(4, 1));
+        p.add("PSV0", psv0_of(0, 0, 0, Bytes(4, 0), 0));
+        p.add("ISG1", isg1);
+        Bytes b = p.container();
+        auto verdict = qollqamir_signature(b.data(), b.size(), 3, QOLLQAMIR_ISG1).verdict;
+        require(b.size() <= 16777216 && verdict.number == number && verdict.place == place, name);
+        require(reference_signature(b.data(), b.size(), 3, QOLLQAMIR_ISG1) == number, name);
+        auto t = measure({repeat([&] { return qollqamir_signature(b.data(), b.size(), 3, QOLLQAMIR_ISG1); }),
+                          repeat([&] { return reference_signature(b.data(), b.size(), 3, QOLLQAMIR_ISG1); }),
+                          repeat([&] { return pass_bytewise(b.data(), b.size()); })});
+        printf("%-30s", name.c_str());
+        for (size_t k = 0; k < 3; k++)
+            cell(t[k]);
+        ratio(t.ratio(0, 2));
+        printf("\n");
+    };
+    for (auto &c : long_strings(8388000, 262143)) {
+        for (auto &place : c.places)
+            place += 8 + 32 * 262143;
+        report_row(c.name, signature_of(c.places, c.text, true), c.good ? 0 : 52, c.place);
+    }
+    // As many names as there can be, into the elements themselves: letters of two bytes up to the zero in the next element's name offset.
+    const uint32_t count = 524200;
+    Bytes most(8 + 32 * size_t(count), 'e');
+    put(most, 0, count);
+    put(most, 4, 8);
+    Numbers random;
+    for (uint32_t e = 0; e < count; e++) {
+        put(most, 8 + 32 * e + 4, 16 + 32 * (random.next() % 4) + 256 * (1 + random.next() % 127) + 65536 * (1 + random.next() % 126));
+        for (size_t k = 8; k < 32; k += 2)
+            most[8 + 32 * e + k] = 0xc3, most[8 + 32 * e + k + 1] = 0xa9;
+    }
+    report_row("524,200 names in the elements", most, 0, 0);
     round_ns = usual;
 }
 
@@ -792,5 +967,6 @@ int main(int argc, char **argv) {
     handing_back(folder / "sdl_D3D12_VertexShader_YUV.dxbc");
     hostile();
     signatures();
+    utf8();
     roots();
 }

@@ -2,6 +2,7 @@
 
    Every call takes any bytes and answers. Its answer begins with a verdict: number 0 where the call accepts, else a refusal number of
    documents 01 and 02 with its place. Beside a refusal every number is 0, no field is set, and a span has start and length 0.
+   Every string that is shown is well-formed UTF-8 (table 3-7 of the Unicode Standard) and is not ended by a zero in its length.
    A pointer is followed by its length and may be null where that is 0, "sizes" and "out" too; a name has no length and points to four
    bytes. Only "out" is written; it must not overlap the others, and nothing else may change the bytes or "out" during a call.
    Calls share nothing and may run on any number of threads at once, on the same bytes too.
@@ -117,11 +118,14 @@ typedef struct {
     qollqamir_field elements;
 } qollqamir_list_lengths;
 
-/* A stretch of the bytes that were handed in. Where it is empty and accepted, its start is left open. */
+/* A stretch of the bytes that were handed in. Where it is empty and accepted, its start is left open. is_string is 1 where it is a string (an
+   element's, the entry name, a signature name), which is well-formed UTF-8 of so many code points, its zero not counted; else both are 0. */
 typedef struct {
     qollqamir_verdict verdict;
     size_t start;
     size_t len;
+    size_t is_string;
+    size_t points;
 } qollqamir_span;
 
 /* What a writer did: the length of its result, 0 beside a refusal. */
@@ -177,8 +181,8 @@ typedef struct {
 } qollqamir_signature_report;
 
 /* An element of a signature part, as it stands; a name offset counts from the start of the part's data. named is 1 where the element has a
-   name, 0 where it has none (name offset 0); the name is a stretch of the bytes that were handed in. A name may be empty: 1, with length
-   0. */
+   name, 0 where it has none (name offset 0); the name is a stretch of the bytes that were handed in, well-formed UTF-8 of name_points
+   code points. A name may be empty: 1, with length 0. */
 typedef struct {
     qollqamir_verdict verdict;
     uint32_t stream;
@@ -193,6 +197,7 @@ typedef struct {
     uint32_t named;
     size_t name_start;
     size_t name_len;
+    size_t name_points;
 } qollqamir_signature_record;
 
 /* The first element that differs: 1 and its number, 0 and 0 where there is none. */
@@ -320,7 +325,8 @@ QOLLQAMIR_NO_PADDING(qollqamir_list_lengths,
                      QOLLQAMIR_SIZE(qollqamir_list_lengths, strings) + QOLLQAMIR_SIZE(qollqamir_list_lengths, indices) +
                      QOLLQAMIR_SIZE(qollqamir_list_lengths, elements));
 QOLLQAMIR_NO_PADDING(qollqamir_span,
-                     QOLLQAMIR_SIZE(qollqamir_span, verdict) + QOLLQAMIR_SIZE(qollqamir_span, start) + QOLLQAMIR_SIZE(qollqamir_span, len));
+                     QOLLQAMIR_SIZE(qollqamir_span, verdict) + QOLLQAMIR_SIZE(qollqamir_span, start) + QOLLQAMIR_SIZE(qollqamir_span, len) +
+                     QOLLQAMIR_SIZE(qollqamir_span, is_string) + QOLLQAMIR_SIZE(qollqamir_span, points));
 QOLLQAMIR_NO_PADDING(qollqamir_written, QOLLQAMIR_SIZE(qollqamir_written, verdict) + QOLLQAMIR_SIZE(qollqamir_written, len));
 QOLLQAMIR_NO_PADDING(qollqamir_program_header,
                      QOLLQAMIR_SIZE(qollqamir_program_header, version_major) + QOLLQAMIR_SIZE(qollqamir_program_header, version_minor) +
@@ -346,7 +352,7 @@ QOLLQAMIR_NO_PADDING(qollqamir_signature_record,
                      QOLLQAMIR_SIZE(qollqamir_signature_record, register_number) + QOLLQAMIR_SIZE(qollqamir_signature_record, mask) +
                      QOLLQAMIR_SIZE(qollqamir_signature_record, exclusive_mask) + QOLLQAMIR_SIZE(qollqamir_signature_record, precision) +
                      QOLLQAMIR_SIZE(qollqamir_signature_record, named) + QOLLQAMIR_SIZE(qollqamir_signature_record, name_start) +
-                     QOLLQAMIR_SIZE(qollqamir_signature_record, name_len));
+                     QOLLQAMIR_SIZE(qollqamir_signature_record, name_len) + QOLLQAMIR_SIZE(qollqamir_signature_record, name_points));
 QOLLQAMIR_NO_PADDING(qollqamir_difference,
                      QOLLQAMIR_SIZE(qollqamir_difference, verdict) + QOLLQAMIR_SIZE(qollqamir_difference, found) +
                      QOLLQAMIR_SIZE(qollqamir_difference, number));
@@ -470,23 +476,24 @@ qollqamir_program_data qollqamir_dxil_program(const uint8_t *data, size_t len);
 /* The report on a container's DXIL part at an edition: what qollqamir_open gives, then 40 to 42. */
 qollqamir_program_report qollqamir_program(const uint8_t *bytes, size_t len, size_t edition);
 
-/* The data of a part ISG1, OSG1 or PSG1 alone: 43 (under 8 bytes), 44 (offset + 32 x count is above their length), 45 (the first element
-   whose name has no zero byte at its end inside them, its number as place). Names are stretches of the data. */
+/* The data of a part ISG1, OSG1 or PSG1 alone: 43 (under 8 bytes), 44 (offset + 32 x count is above their length), then element
+   by element, its number as place, 45 (its name has no zero byte at its end inside them) and 52 (the bytes before that zero aren't well-formed
+   UTF-8). Names are stretches of the data. */
 qollqamir_signature_data qollqamir_sg1_read(const uint8_t *data, size_t len);
 
-/* Element i of such data: 43 to 45, then 26. */
+/* Element i of such data: 43 to 45 and 52, then 26. */
 qollqamir_signature_record qollqamir_sg1_element(const uint8_t *data, size_t len, size_t i);
 
-/* Element i by itself, whatever the others are: 43, 26, 44 of its own 32 bytes, 45 of its own name. Where the data are accepted it is what
-   qollqamir_sg1_element gives, so data that were judged once can be listed without judging them anew for each element. A call reads the
+/* Element i by itself, whatever the others are: 43, 26, 44 of its own 32 bytes, 45 and 52 of its own name. Where the data are accepted it
+   is what qollqamir_sg1_element gives, so data that were judged once can be listed without judging them anew for each element. A call reads the
    name to its zero; names may share bytes, so to list hostile data can take as long as count times their length. */
 qollqamir_signature_record qollqamir_sg1_element_alone(const uint8_t *data, size_t len, size_t i);
 
-/* The name of element i: 43 to 45, then 26 where there is no such element or it has no name. */
+/* The name of element i: 43 to 45 and 52, then 26 where there is no such element or it has no name. */
 qollqamir_span qollqamir_sg1_name(const uint8_t *data, size_t len, size_t i);
 
-/* The report on a container's signature part at an edition: what qollqamir_open gives, 26 where the part is absent, then 43 to 45. Its
-   elements can be listed by qollqamir_sg1_element_alone on the stretch that it gives. */
+/* The report on a container's signature part at an edition: what qollqamir_open gives, 26 where the part is absent, then 43 to 45 and 52.
+   Its elements can be listed by qollqamir_sg1_element_alone on the stretch that it gives. */
 qollqamir_signature_report qollqamir_signature(const uint8_t *bytes, size_t len, size_t edition, uint32_t part);
 
 /* Element i of the part, and its name alone; names are stretches of the container: those of qollqamir_signature, then 26 as above. */

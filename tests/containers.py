@@ -66,29 +66,29 @@ def root_signature():
 
 def hull():
     """A hull shader with something at every line of `show`: PSV0 data off every multiple of 4, records longer than the known ones,
-    strings with bytes that don't print, index arrays of 0 (at the table's end), 1 and 3 numbers, view and input masks. ISG1: PSV0's name,
-    no name, and one past PSV0's list; OSG1: an empty name, in the header, as PSV0 has it; PSG1: a bad name, the second. RTS0: every kind of
-    item."""
+    strings with bytes that don't print and a letter of two bytes, index arrays of 0 (at the table's end), 1 and 3 numbers, view and input
+    masks. ISG1: PSV0's name, no name, and one past PSV0's list; OSG1: an empty name, in the header, as PSV0 has it; PSG1: a bad name, the
+    second. RTS0: every kind of item."""
     stage, view, patch = 3, 1, 2
-    record = bytes(range(16)) + words(4, 0xFFFFFFFF) + bytes([stage, view, patch, 0, 2, 1, 1, 1, 9, 0, 0, 0]) + words(7, 8, 9, 20)
+    record = bytes(range(16)) + words(4, 0xFFFFFFFF) + bytes([stage, view, patch, 0, 2, 1, 1, 1, 9, 0, 0, 0]) + words(7, 8, 9, 21)
     resources = words(2, 0, 0, 0, 13, 0, 99) + words(3, 1, 5, 0xFFFFFFFF, 2, 1, 99)
-    strings = b"\0A \"\\\x1f\x7f\xff~\0!TexCoord\0main\0"
+    strings = b"\0A \"\\\x1f\x7f\xc3\xbf~\0!TexCoord\0main\0"
     strings += bytes(-len(strings) % 4)
     indices = words(40, 0, 1, 0xFFFFFFFF)
     elements = b"".join(
         words(name, index) + bytes(fields) + b"more"
         for name, index, fields in [
             (1, 0, [1, 0, 0x74, 0, 3, 2, 0x3F, 0]),
-            (10, 3, [1, 1, 0xC3, 16, 1, 8, 0x10, 7]),
+            (11, 3, [1, 1, 0xC3, 16, 1, 8, 0x10, 7]),
             (0, 1, [3, 2, 0x51, 3, 9, 0, 0x25, 255]),
-            (9, 4, [0, 255, 0x00, 25, 0, 1, 0x00, 0]),
+            (10, 4, [0, 255, 0x00, 25, 0, 1, 0x00, 0]),
         ]
     )
     masks = words(0x12345678, 1) + words(3) + words(*range(8)) + words(*range(256, 260))
     data = words(52) + record + words(2, 28) + resources + words(len(strings)) + strings
     data += words(len(indices) // 4) + indices + words(20) + elements + masks + b"\xee"
     most = 0xFFFFFFFF
-    inputs = [(0, 105, 0, 1, 2, 3, 15, 3, 4), (most, 0, most, most, most, most, 255, 254, most), (3, 114, 2, 0, 0, 0, 0, 0, 0)]
+    inputs = [(0, 105, 0, 1, 2, 3, 15, 3, 4), (most, 0, most, most, most, most, 255, 254, most), (3, 115, 2, 0, 0, 0, 0, 0, 0)]
     outputs = [(0, 3, 1, 64, 3, 0, 7, 0, 1)]
     patches = [(0, 74, 0, 0, 0, 0, 0, 0, 0), (0, 75, 0, 0, 0, 0, 0, 0, 0)]
     return box(
@@ -97,7 +97,7 @@ def hull():
             (b"DXIL", b"\5"),
             (b"PSV0", data),
             (b"!\x20\x7f\xff", b""),
-            (b"ISG1", signature(inputs, strings[1:10] + b"!\x80\0", 9)),
+            (b"ISG1", signature(inputs, strings[1:11] + b"!\xe2\x82\xac\0", 9)),
             (b"OSG1", signature(outputs, b"")),
             (b"PSG1", signature(patches, b"ab\0c")),
             (b"RTS0", root_signature()),

@@ -150,8 +150,25 @@ static size_t shader_with(uint8_t *out, const uint8_t *psv0, size_t psv0_len, co
     return written.len;
 }
 
+/* A span shows these bytes, which are no string. */
 static bool shows(const uint8_t *bytes, qollqamir_span span, const void *expected, size_t len) {
-    return span.verdict.number == 0 && span.len == len && memcmp(bytes + span.start, expected, len) == 0;
+    return span.verdict.number == 0 && span.len == len && memcmp(bytes + span.start, expected, len) == 0 && span.is_string == 0 &&
+           span.points == 0;
+}
+
+/* The code points of well-formed text: its bytes outside 80 to BF. */
+static size_t code_points(const uint8_t *text, size_t len) {
+    size_t n = 0;
+    while (len-- > 0) {
+        n += (text[len] & 0xc0) != 0x80;
+    }
+    return n;
+}
+
+/* A span shows this string. */
+static bool says(const uint8_t *bytes, qollqamir_span span, const void *text, size_t len) {
+    return span.verdict.number == 0 && span.len == len && memcmp(bytes + span.start, text, len) == 0 && span.is_string == 1 &&
+           span.points == code_points(text, len);
 }
 
 static void test_box_m(void) {
@@ -262,7 +279,7 @@ static void test_box_c(void) {
     qollqamir_opening opening = qollqamir_open_default(c, len);
     ACCEPTED(opening);
     CHECK(opening.parts == 2 && opening.file_edition == 3 && opening.edition_read == 3 && QOLLQAMIR_DEFAULT_EDITION == 3);
-    CHECK(shows(c, qollqamir_view(c, len, QOLLQAMIR_DEFAULT_EDITION, QOLLQAMIR_ENTRY_NAME, 0), "main", 4));
+    CHECK(says(c, qollqamir_view(c, len, QOLLQAMIR_DEFAULT_EDITION, QOLLQAMIR_ENTRY_NAME, 0), "main", 4));
 
     qollqamir_info info = qollqamir_runtime_info(c, len, 3);
     ACCEPTED(info);
@@ -288,11 +305,11 @@ static void test_box_c(void) {
     UNSET(info.minimum_wave_lanes);
     UNSET(info.entry_name_offset);
 
-    CHECK(shows(c, qollqamir_view(c, len, 3, QOLLQAMIR_ENTRY_NAME, 77), "main", 4));
-    CHECK(shows(psv0, qollqamir_psv0_view(psv0, psv0_len, 3, QOLLQAMIR_ENTRY_NAME, 0), "main", 4));
+    CHECK(says(c, qollqamir_view(c, len, 3, QOLLQAMIR_ENTRY_NAME, 77), "main", 4));
+    CHECK(says(psv0, qollqamir_psv0_view(psv0, psv0_len, 3, QOLLQAMIR_ENTRY_NAME, 0), "main", 4));
     qollqamir_span span = qollqamir_view(c, len, 1, QOLLQAMIR_ENTRY_NAME, 0);
     REFUSED(span, 26, 0);
-    CHECK(span.start == 0 && span.len == 0);
+    CHECK(span.start == 0 && span.len == 0 && span.is_string == 0 && span.points == 0);
     CHECK(shows(c, qollqamir_view(c, len, 1, QOLLQAMIR_MASK, 10), "", 0));
     REFUSED(qollqamir_view(c, len, 1, QOLLQAMIR_MASK, 11), 26, 0);
     REFUSED(qollqamir_view(c, len, 1, QOLLQAMIR_ELEMENT_STRING, 0), 26, 0);
@@ -314,7 +331,7 @@ static void test_box_c(void) {
 
     /* Name offsets 5 and 8; a longer runtime record. */
     len = shader(c, psv0, box_c(psv0, 52, 5));
-    CHECK(shows(c, qollqamir_view(c, len, 3, QOLLQAMIR_ENTRY_NAME, 0), "", 0));
+    CHECK(says(c, qollqamir_view(c, len, 3, QOLLQAMIR_ENTRY_NAME, 0), "", 0));
     len = shader(c, psv0, box_c(psv0, 52, 8));
     REFUSED(qollqamir_open(c, len, 3), 24, 0);
     REFUSED(qollqamir_view(c, len, 3, QOLLQAMIR_ENTRY_NAME, 0), 24, 0);
@@ -328,7 +345,7 @@ static void test_box_c(void) {
     CHECK(opening.parts == 0 && opening.file_edition == 0 && opening.edition_read == 0);
     len = shader(c, psv0, box_c(psv0, 56, 1));
     CHECK(len == 140);
-    CHECK(shows(c, qollqamir_view(c, len, 3, QOLLQAMIR_ENTRY_NAME, 0), "main", 4));
+    CHECK(says(c, qollqamir_view(c, len, 3, QOLLQAMIR_ENTRY_NAME, 0), "main", 4));
 }
 
 /* 96 parts, so that the last entry of every array is looked at; 97 are refused. */
@@ -495,12 +512,12 @@ static void test_writers(void) {
     SET(element.index_reference, 4);
     SET(element.reserved, 255);
     REFUSED(qollqamir_element(out, len, 3, 3), 26, 0);
-    CHECK(shows(out, qollqamir_view(out, len, 3, QOLLQAMIR_ELEMENT_STRING, 0), "POS", 3));
+    CHECK(says(out, qollqamir_view(out, len, 3, QOLLQAMIR_ELEMENT_STRING, 0), "POS", 3));
     /* As many numbers as the element has rows; the second has none, and its reference is at the end of the table. */
     CHECK(shows(out, qollqamir_view(out, len, 3, QOLLQAMIR_ELEMENT_ARRAY, 0), s.indices, 12));
     CHECK(shows(out, qollqamir_view(out, len, 3, QOLLQAMIR_ELEMENT_ARRAY, 1), "", 0));
     CHECK(shows(out, qollqamir_view(out, len, 3, QOLLQAMIR_ELEMENT_ARRAY, 2), s.indices + 16, 8));
-    CHECK(shows(out, qollqamir_view(out, len, 3, QOLLQAMIR_ENTRY_NAME, 0), "main", 4));
+    CHECK(says(out, qollqamir_view(out, len, 3, QOLLQAMIR_ENTRY_NAME, 0), "main", 4));
     CHECK(shows(out, qollqamir_view(out, len, 3, QOLLQAMIR_MASK, 4), s.masks + 8, 8));
     CHECK(shows(out, qollqamir_view(out, len, 3, QOLLQAMIR_MASK, 5), s.masks + 16, 96));
     CHECK(shows(out, qollqamir_view(out, len, 3, QOLLQAMIR_MASK, 9), s.masks + 112, 96));
@@ -638,6 +655,126 @@ static void test_program(void) {
 
 /* ---- the signature parts */
 
+/* ---- strings */
+
+/* Some bytes as the entry name, as the name of the second of two elements and as that of the second of three signature elements, the first
+   of which has a good one: shown, or refused with 24, 22 and 52. Written, then read. */
+static void string(const uint8_t *text, size_t len, bool good) {
+    uint8_t strings[64] = {0}, runtime[52] = {0}, elements[32] = {0}, psv0[512], bytes[1024], data[256] = {0};
+    memcpy(strings + 4, text, len);
+    size_t table = (4 + len + 4) / 4 * 4;
+    runtime[24] = 1;
+    for (int elements_len = 0; elements_len <= 32; elements_len += 32) {
+        runtime[28] = (uint8_t)(elements_len / 16);
+        put32(runtime + 48, elements_len ? 0 : 4);
+        put32(elements + 16, 4);
+        memset(psv0, 0xee, sizeof psv0);
+        qollqamir_written written =
+            qollqamir_write_psv0(3, runtime, 52, runtime, 0, strings, table, runtime, 0, elements, (size_t)elements_len, runtime, 0, psv0, 512);
+        if (!good) {
+            REFUSED(written, elements_len ? 22 : 24, elements_len ? 1 : 0);
+            CHECK(written.len == 0 && psv0[0] == 0xee && psv0[511] == 0xee);
+            /* The same data laid out by hand. */
+            size_t n = put32(psv0, 52);
+            n += put(psv0 + n, runtime, 52);
+            n += put32(psv0 + n, 0);
+            n += put32(psv0 + n, (uint32_t)table);
+            n += put(psv0 + n, strings, table);
+            n += put32(psv0 + n, 0);
+            if (elements_len) {
+                n += put32(psv0 + n, 16);
+                n += put(psv0 + n, elements, 32);
+            }
+            written.len = n;
+        }
+        size_t n = shader(bytes, psv0, written.len);
+        for (size_t edition = 1; edition <= 3; edition++) {
+            bool judged = !good && (elements_len || edition == 3);
+            REFUSED(qollqamir_psv0_open(psv0, written.len, edition), judged ? (elements_len ? 22 : 24) : 0, judged && elements_len ? 1 : 0);
+            REFUSED(qollqamir_open(bytes, n, edition), judged ? (elements_len ? 22 : 24) : 0, judged && elements_len ? 1 : 0);
+        }
+        if (good && elements_len) {
+            CHECK(says(bytes, qollqamir_view(bytes, n, 1, QOLLQAMIR_ELEMENT_STRING, 1), text, len));
+            CHECK(says(psv0, qollqamir_psv0_view(psv0, written.len, 3, QOLLQAMIR_ELEMENT_STRING, 0), "", 0));
+        } else if (good) {
+            CHECK(says(bytes, qollqamir_view(bytes, n, 3, QOLLQAMIR_ENTRY_NAME, 0), text, len));
+        }
+    }
+    put32(data, 3);
+    put32(data + 4, 8);
+    put32(data + 12, 104);
+    put32(data + 44, 106);
+    put(data + 104, "A", 2);
+    put(data + 106, text, len);
+    size_t data_len = 106 + len + 1;
+    qollqamir_signature_data read = qollqamir_sg1_read(data, data_len);
+    REFUSED(read, good ? 0 : 52, good ? 0 : 1);
+    CHECK(read.count == (good ? 3u : 0u));
+    CHECK(says(data, qollqamir_sg1_name(data, data_len, 0), "A", 1) == good);
+    CHECK(says(data, qollqamir_sg1_name(data, data_len, 1), text, len) == good);
+    REFUSED(qollqamir_sg1_element_alone(data, data_len, 0), 0, 0);
+    qollqamir_signature_record alone = qollqamir_sg1_element_alone(data, data_len, 1);
+    REFUSED(alone, good ? 0 : 52, good ? 0 : 1);
+    CHECK(alone.named == good && alone.name_points == (good ? code_points(text, len) : 0));
+    /* 45 of an earlier element comes first, that of a later one after. */
+    put32(data + 76, (uint32_t)data_len);
+    REFUSED(qollqamir_sg1_read(data, data_len), good ? 45 : 52, good ? 2 : 1);
+    put32(data + 12, (uint32_t)data_len);
+    REFUSED(qollqamir_sg1_read(data, data_len), 45, 0);
+}
+
+/* The table of well-formed sequences, at both ends of every range and one past them. */
+static void test_strings(void) {
+    static const uint8_t rows[9][4][2] = {
+        {{0x01, 0x7f}},
+        {{0xc2, 0xdf}, {0x80, 0xbf}},
+        {{0xe0, 0xe0}, {0xa0, 0xbf}, {0x80, 0xbf}},
+        {{0xe1, 0xec}, {0x80, 0xbf}, {0x80, 0xbf}},
+        {{0xed, 0xed}, {0x80, 0x9f}, {0x80, 0xbf}},
+        {{0xee, 0xef}, {0x80, 0xbf}, {0x80, 0xbf}},
+        {{0xf0, 0xf0}, {0x90, 0xbf}, {0x80, 0xbf}, {0x80, 0xbf}},
+        {{0xf1, 0xf3}, {0x80, 0xbf}, {0x80, 0xbf}, {0x80, 0xbf}},
+        {{0xf4, 0xf4}, {0x80, 0x8f}, {0x80, 0xbf}, {0x80, 0xbf}},
+    };
+    for (int r = 0; r < 9; r++) {
+        size_t len = r == 0 ? 1 : r == 1 ? 2 : r < 6 ? 3 : 4;
+        for (int ends = 0; ends < 1 << len; ends++) {
+            uint8_t text[6] = {'a'};
+            for (size_t k = 0; k < len; k++) {
+                text[1 + k] = rows[r][k][ends >> k & 1];
+            }
+            /* With and without a letter before it. */
+            string(text + 1, len, true);
+            string(text, len + 1, true);
+            for (size_t k = 1; k < len; k++) {
+                uint8_t end = text[1 + k];
+                text[1 + k] = (uint8_t)(ends >> k & 1 ? end + 1 : end - 1);
+                string(text, len + 1, false);
+                text[1 + k] = end;
+                /* Cut before this byte, and its middle alone. */
+                string(text, 1 + k, false);
+                string(text + 1 + k, len - k, false);
+            }
+        }
+    }
+    /* First bytes that no row has. */
+    for (int lead = 0x80; lead <= 0xff; lead++) {
+        uint8_t text[4] = {(uint8_t)lead, 0x80, 0x80, 0x80};
+        if (lead < 0xc2 || lead > 0xf4) {
+            for (size_t len = 1; len <= 4; len++) {
+                string(text, len, false);
+            }
+        }
+    }
+    /* U+FEFF and noncharacters are well formed; surrogates and overlong forms are not. */
+    static const char *const good[] = {"\xef\xbb\xbf", "\xef\xbf\xbe", "\xef\xbf\xbf", "\xf4\x8f\xbf\xbf", "\xef\xb7\x90", ""};
+    static const char *const bad[] = {"\xed\xa0\x80", "\xed\xbf\xbf", "\xc0\x80", "\xe0\x80\x80", "\xf0\x80\x80\x80", "\xf4\x90\x80\x80"};
+    for (int i = 0; i < 6; i++) {
+        string(name(good[i]), strlen(good[i]), true);
+        string(name(bad[i]), strlen(bad[i]), false);
+    }
+}
+
 static const char *const signature_parts[] = {"ISG1", "OSG1", "PSG1"};
 enum { PARTS = 3 };
 
@@ -658,6 +795,7 @@ static qollqamir_signature_record shown(const uint8_t *data, size_t i, size_t at
         .named = o != 0,
         .name_start = o == 0 ? 0 : at + o,
         .name_len = o == 0 ? 0 : strlen((const char *)data + o),
+        .name_points = o == 0 ? 0 : code_points(data + o, strlen((const char *)data + o)),
     };
 }
 
@@ -667,7 +805,7 @@ static void same_record(qollqamir_signature_record got, qollqamir_signature_reco
 
 /* A name is that of the record, or 26; beside a refusal it is empty. */
 static void same_name(qollqamir_span got, qollqamir_signature_record record) {
-    qollqamir_span expected = {record.verdict, record.name_start, record.name_len};
+    qollqamir_span expected = {record.verdict, record.name_start, record.name_len, record.named, record.name_points};
     if (record.verdict.number == 0 && record.named == 0) {
         expected.verdict.number = 26;
     }
@@ -759,7 +897,7 @@ static void test_signature(void) {
     CHECK(record.system_value == 0x5f5e5d5c && record.component_type == 0x63626160 && record.register_number == 0x67666564);
     CHECK(record.mask == 0x68 && record.exclusive_mask == 0x69 && record.precision == 0x6f6e6d6c);
     CHECK(record.named == 1 && record.name_start == 106 && record.name_len == 2);
-    CHECK(shows(data, qollqamir_sg1_name(data, len, 2), "BC", 2));
+    CHECK(says(data, qollqamir_sg1_name(data, len, 2), "BC", 2));
     record = qollqamir_sg1_element(data, len, 1);
     ACCEPTED(record);
     CHECK(record.precision == 0x4f4e4d4c && record.named == 0 && record.name_start == 0 && record.name_len == 0);
@@ -770,7 +908,7 @@ static void test_signature(void) {
     ACCEPTED(report);
     CHECK(n == 341 && report.count == 3 && report.start == 232 && report.len == 109);
     CHECK(qollqamir_signature_element(bytes, n, 3, QOLLQAMIR_OSG1, 2).name_start == 338);
-    CHECK(shows(bytes, qollqamir_signature_name(bytes, n, 3, QOLLQAMIR_OSG1, 2), "BC", 2));
+    CHECK(says(bytes, qollqamir_signature_name(bytes, n, 3, QOLLQAMIR_OSG1, 2), "BC", 2));
     REFUSED(qollqamir_signature_name(bytes, n, 3, QOLLQAMIR_OSG1, 1), 26, 0);
     REFUSED(qollqamir_signature(bytes, n, 3, QOLLQAMIR_ISG1), 26, 0);
 
@@ -839,7 +977,7 @@ static void test_signature(void) {
     signature(data, len, 0, 0);
     record = qollqamir_sg1_element(data, len, 0);
     CHECK(record.named == 1 && record.name_start == 108 && record.name_len == 0);
-    CHECK(shows(data, qollqamir_sg1_name(data, len, 0), "", 0));
+    CHECK(says(data, qollqamir_sg1_name(data, len, 0), "", 0));
 
     /* An element by itself: the others may be bad. 26 comes before 44, and 44 before 45. */
     static const uint32_t middle[3] = {104, 106, 105};
@@ -1270,7 +1408,7 @@ enum call {
 };
 
 /* The greatest refusal number of any call is below the one, the greatest place that is come by below the other. */
-enum { NUMBERS = 52, PLACES = 16 };
+enum { NUMBERS = 53, PLACES = 16 };
 
 /* A call and what it is handed; a signature part's number is its kind, and so is a range's. A writer's byte arguments lie end to end in
    bytes, and pieces has their lengths. */
@@ -1665,6 +1803,7 @@ static void test_every_byte(void) {
         for (int number = signature ? 43 : root ? 46 : NUMBERS; number <= (signature ? 45 : 51); number++) {
             CHECK(refusals[call][number][0].answer_len > 0);
         }
+        CHECK(!signature || refusals[call][52][0].answer_len > 0);
     }
     CHECK(triples >= 950);
     printf("c answers: %zu calls made twice; %zu refused answers equal to that of another file, of %zu calls, numbers and places\n", asked,
@@ -1735,6 +1874,7 @@ int main(void) {
     test_box_c();
     test_last_entries();
     test_writers();
+    test_strings();
     test_program();
     test_signature();
     test_difference();

@@ -20,10 +20,12 @@ use Rattle.part_table_layout.specs.declared.Found.{Found}
 use Rattle.part_table_layout.specs.declared.Found.the-variants.{At, Nothing}
 use Rattle.part_table_layout.proofs.Accepted.{accepted-told, part-inside}
 use Rattle.part_table_layout.proofs.Lookups.{find-told}
-use Rattle.psv0_layout.specs.Answers.{numberBeside, bytesBeside, bytesOf, openingOf, infoAnswerOf, resourceAnswerOf, elementAnswerOf, lengthsAnswerOf, refusedInfo, refusedResource, refusedElement, refusedLengths, refusedSpan, SpanShows}
+use Rattle.psv0_layout.specs.Answers.{numberBeside, bytesBeside, bytesOf, openingOf, infoAnswerOf, resourceAnswerOf, elementAnswerOf, lengthsAnswerOf, refusedInfo, refusedResource, refusedElement, refusedLengths, refusedSpan, questionOf, pointsOf, SpanShows}
 use Rattle.psv0_layout.specs.declared.Opening.{Opening}
+use Rattle.psv0_layout.specs.declared.Points.{Points}
 use Rattle.psv0_layout.specs.declared.Span.{Span}
-use Rattle.psv0_layout.proofs.Spans.{refused-shows}
+use Rattle.psv0_layout.specs.declared.View.{View}
+use Rattle.psv0_layout.proofs.Spans.{refused-shows, no-points}
 use Rattle.psv0_layout.specs.Handed as handed
 use Rattle.psv0_layout.specs.Judged.{opened}
 use Rattle.psv0_layout.specs.Layout.{editionRead}
@@ -106,13 +108,17 @@ module _ (k : ℕ) (b : List ℕ) {p : PsvPart} (hp : p ≡ psvPartOf k b) where
     unfolding containerOpeningOf
     no-opening = let e = refuses-before k b (before-is h) in rw e
 
-    pub no-view : (x : Question) {s : Span} → s ≡ refusedSpan n q
-        → SpanShows b (queried (containerJudged k b) (containerAnswered k b x)) (bytesOf (containerAnswered k b x)) s
+    no-values : containerAnswered k b ≡ (λ x. unset)
+    no-values = λ i x. shows-nothing k b (before-is h) x i
+
+    pub no-view : (v : View) {s : Span} → s ≡ refusedSpan n q
+        → SpanShows b (queried (containerJudged k b) (containerAnswered k b (questionOf v))) (bytesOf (containerAnswered k b (questionOf v)))
+        (pointsOf v (containerAnswered k b)) s
     unfolding queried _then_
-    no-view x e = rw (refuses-before k b (before-is h), shows-nothing k b (before-is h) x, e) (refused-shows b n q)
+    no-view v e = rw (refuses-before k b (before-is h), no-values, no-points v, e) (refused-shows b n q)
 
     pub no-section : (l : List ℕ) {s : Span} → s ≡ refusedSpan n q
-        → SpanShows b (containerJudged k b) (bytesBeside (containerJudged k b) l) s
+        → SpanShows b (containerJudged k b) (bytesBeside (containerJudged k b) l) Points.Unset s
     no-section l e = rw (refuses-before k b (before-is h), e) (refused-shows b n q)
 
     pub no-part : (x : ℕ) → refusedPart (Refused n q) ≡ containerPart k b x
@@ -140,14 +146,14 @@ module _ (k : ℕ) (b : List ℕ) {p : PsvPart} (hp : p ≡ psvPartOf k b) (a : 
   data-length =
       rw hd (length-take-le (p .end - p .start) (drop (p .start) b) (simp length-drop (omega (arith, order k b hp a, inside k b hp a))))
 
-  pub start-short : {v : Verdict} {l : List ℕ} {s : Span} → SpanShows d v l s → p .start + s .start ≤ 16777216
+  pub start-short : {v : Verdict} {l : List ℕ} {c : Points} {s : Span} → SpanShows d v l c s → p .start + s .start ≤ 16777216
   start-short h =
       let z = before-told k b (before-is k b hp a) .table in
       omega (arith, h .inside, data-length, order k b hp a, inside k b hp a, accepted-told b z .header .short)
 
-  accepted-shows : {l : List ℕ} {s : Span} → SpanShows d Accepted l s
-      → SpanShows b Accepted l (record { verdict = Accepted; start = p .start + s .start; len = s .len })
-  accepted-shows {l} {s} h =
+  accepted-shows : {l : List ℕ} {c : Points} {s : Span} → SpanShows d Accepted l c s
+      → SpanShows b Accepted l c (record { verdict = Accepted; start = p .start + s .start; len = s .len; points = s .points })
+  accepted-shows {l} {c} {s} h =
       let i : s .start + s .len ≤ p .end - p .start = rw data-length at (h .inside) in
       let e : take (s .len) (drop (s .start) d) ≡ l = h .bytes in
       record {
@@ -155,29 +161,33 @@ module _ (k : ℕ) (b : List ℕ) {p : PsvPart} (hp : p ≡ psvPartOf k b) (a : 
         inside = omega (arith, order k b hp a, inside k b hp a);
         bytes = sym (part-part b (p .start) (p .end - p .start) (s .start) (s .len) i) ∙ rw (← hd) e;
         refused = λ n q z. absurd (let y : _≡_ {A = ℕ} 0 1 = cc in omega arith);
+        points = h .points;
       }
 
-  pub moved-shows : (v : Verdict) {l : List ℕ} {s r : Span} → SpanShows d v l s → r ≡ movedSpan (s .verdict) (p .start + s .start) (s .len)
-      → SpanShows b v l r
+  pub moved-shows : (v : Verdict) {l : List ℕ} {c : Points} {s r : Span} → SpanShows d v l c s
+      → r ≡ movedSpan (s .verdict) (p .start + s .start) (s .len) (s .points) → SpanShows b v l c r
   moved-shows Accepted h e = rw (e, h .verdict) (accepted-shows h)
-  moved-shows (Refused n q) {l} {s} h e =
+  moved-shows (Refused n q) {l} {c} {s} h e =
       let z : l ≡ [] = sym (h .bytes) ∙ rw (h .refused n q refl .1) in
-      rw (e, h .verdict, z) (refused-shows b n q)
+      let y : c ≡ Points.Unset = sym (h .points) ∙ h .refused n q refl .2 in
+      rw (e, h .verdict, z, y) (refused-shows b n q)
 
-  pub view-shows : (x : Question) {s r : Span} → SpanShows d (queried (opened k d) (answered k d x)) (bytesOf (answered k d x)) s
-      → r ≡ movedSpan (s .verdict) (p .start + s .start) (s .len)
-      → SpanShows b (queried (containerJudged k b) (containerAnswered k b x)) (bytesOf (containerAnswered k b x)) r
-  view-shows x {s} {r} h e =
+  pub view-shows : (v : View) {s r : Span}
+      → SpanShows d (queried (opened k d) (answered k d (questionOf v))) (bytesOf (answered k d (questionOf v))) (pointsOf v (answered k d)) s
+      → r ≡ movedSpan (s .verdict) (p .start + s .start) (s .len) (s .points)
+      → SpanShows b (queried (containerJudged k b) (containerAnswered k b (questionOf v))) (bytesOf (containerAnswered k b (questionOf v)))
+      (pointsOf v (containerAnswered k b)) r
+  view-shows v {s} {r} h e =
       let y = hd ∙ data-is k b hp a in
       let f = before-is k b hp a in
       let o : opened k d ≡ containerJudged k b = rw y (sym (opens-alone k b f)) in
-      let w : answered k d x ≡ containerAnswered k b x = rw y (sym (shows-alone k b f x)) in
-      rw (← o, ← w) (moved-shows (queried (opened k d) (answered k d x)) h e)
+      let w : answered k d ≡ containerAnswered k b = rw y (sym (λ i x. shows-alone k b f x i)) in
+      rw (← o, ← w) (moved-shows (queried (opened k d) (answered k d (questionOf v))) h e)
 
   pub section-shows : (x : handed.Section) {s r : Span}
-      → SpanShows d (opened k d) (bytesBeside (opened k d) (handed.handed (editionRead k d) d x)) s
-      → r ≡ movedSpan (s .verdict) (p .start + s .start) (s .len)
-      → SpanShows b (containerJudged k b) (bytesBeside (containerJudged k b) (handed.handed (editionRead k (psvOf b)) (psvOf b) x)) r
+      → SpanShows d (opened k d) (bytesBeside (opened k d) (handed.handed (editionRead k d) d x)) Points.Unset s
+      → r ≡ movedSpan (s .verdict) (p .start + s .start) (s .len) (s .points)
+      → SpanShows b (containerJudged k b) (bytesBeside (containerJudged k b) (handed.handed (editionRead k (psvOf b)) (psvOf b) x)) Points.Unset r
   section-shows x {s} {r} h e =
       let y = hd ∙ data-is k b hp a in
       let o : opened k d ≡ containerJudged k b = rw y (sym (opens-alone k b (before-is k b hp a))) in

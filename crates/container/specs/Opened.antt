@@ -8,7 +8,8 @@ use Rattle.wire.specs.declared.Verdict.the-variants.{Accepted, Refused}
 use Rattle.part_table_layout.specs.Lookup.{find, refusedPart}
 use Rattle.part_table_layout.specs.Table.{countOf}
 use Rattle.part_table_layout.specs.declared.Part.{Part}
-use Rattle.psv0_layout.specs.Answers.{numberBeside}
+use Rattle.psv0_layout.specs.Answers.{numberBeside, refusedSpan}
+use Rattle.psv0_layout.specs.declared.Points.{Points}
 use Rattle.psv0_layout.specs.declared.Span.{Span}
 use Rattle.psv0_layout.specs.Layout.{editionRead}
 use Rattle.container_layout.specs.Container.{psv0, startFound, sizeFound, psvOf, beforePsv, containerJudged}
@@ -33,10 +34,10 @@ abbrev pub openingIf : Verdict → ℕ → ℕ → ℕ → ContainerOpening
 openingIf Accepted parts f e = record { verdict = Accepted; parts = parts; «file_edition» = f; «edition_read» = e }
 openingIf (Refused n p) parts f e = refusedOpening n p
 
--- a stretch under a verdict; start and length 0 beside a refusal
-abbrev pub movedSpan : Verdict → ℕ → ℕ → Span
-movedSpan Accepted s l = record { verdict = Accepted; start = s; len = l }
-movedSpan (Refused n p) s l = record { verdict = Refused n p; start = 0; len = 0 }
+-- a stretch with its code points under a verdict; start and length 0 and none beside a refusal
+abbrev pub movedSpan : Verdict → ℕ → ℕ → Points → Span
+movedSpan Accepted s l c = record { verdict = Accepted; start = s; len = l; points = c }
+movedSpan (Refused n p) s l c = refusedSpan n p
 
 -- a part under a verdict
 abbrev pub partBeside : Verdict → Part → Part

@@ -6,6 +6,7 @@ use psv0_layout::ElementAnswer;
 use psv0_layout::InfoAnswer;
 use psv0_layout::LengthsAnswer;
 use psv0_layout::Opening;
+use psv0_layout::Points;
 use psv0_layout::ResourceAnswer;
 use psv0_layout::Section;
 use psv0_layout::Span;
@@ -16,7 +17,7 @@ ghost use Prim.Native.Nat.{_+_, _≤_};
 ghost use lib.ListN.{length, take, drop};
 ghost use Rattle.wire.specs.Number.{u32At};
 ghost use Rattle.part_table_layout.specs.Three.{threeOf};
-ghost use Rattle.psv0_layout.specs.Answers.{infoAnswerOf, resourceAnswerOf, elementAnswerOf, lengthsAnswerOf, questionOf, sectionOf, bytesOf, bytesBeside, SpanShows};
+ghost use Rattle.psv0_layout.specs.Answers.{infoAnswerOf, resourceAnswerOf, elementAnswerOf, lengthsAnswerOf, questionOf, pointsOf, sectionOf, bytesOf, bytesBeside, SpanShows};
 ghost use Rattle.psv0_layout.specs.Handed.{handed};
 ghost use Rattle.psv0_layout.specs.Layout.{editionRead, defaultEdition};
 ghost use Rattle.psv0_layout.specs.Shown.{queried};
@@ -203,22 +204,24 @@ pub fn lengths(b: &[u8], edition: usize) -> LengthsAnswer
 // A stretch of the PSV0 data, which start at a place, as one of the container.
 fn moved(s: Span, by: usize) -> Span
     requires { ⌜ by + s .start ≤ 16777216 ⌝ }
-    ensures { λ r. ⌜ r ≡ movedSpan (s .verdict) (by + s .start) (s .len) ⌝ }
+    ensures { λ r. ⌜ r ≡ movedSpan (s .verdict) (by + s .start) (s .len) (s .points) ⌝ }
 {
     let v = s.verdict;
+    let points = s.points;
     match v {
         Verdict::Refused(n, place) => psv0::refused_span(n, place),
         Verdict::Accepted => Span {
             verdict: Verdict::Accepted,
             start: by + s.start,
             len: s.len,
+            points,
         },
     }
 }
 
-// A view, as a stretch of the container.
+// A view, as a stretch of the container, with the code points of a string.
 pub fn view_span(b: &[u8], edition: usize, view: View) -> Span
-    ensures { λ r. ⌜ SpanShows (now (b .entry)) (queried (containerJudged edition (now (b .entry))) (containerAnswered edition (now (b .entry)) (questionOf view))) (bytesOf (containerAnswered edition (now (b .entry)) (questionOf view))) r ⌝ }
+    ensures { λ r. ⌜ SpanShows (now (b .entry)) (queried (containerJudged edition (now (b .entry))) (containerAnswered edition (now (b .entry)) (questionOf view))) (bytesOf (containerAnswered edition (now (b .entry)) (questionOf view))) (pointsOf view (containerAnswered edition (now (b .entry)))) r ⌝ }
 {
     let p = find_psv0(b, edition);
     let start = p.start;
@@ -232,7 +235,7 @@ pub fn view_span(b: &[u8], edition: usize, view: View) -> Span
 
 // The bytes of a section for writing again, as a stretch of the container.
 pub fn section_span(b: &[u8], edition: usize, section: Section) -> Span
-    ensures { λ r. ⌜ SpanShows (now (b .entry)) (containerJudged edition (now (b .entry))) (bytesBeside (containerJudged edition (now (b .entry))) (handed (editionRead edition (psvOf (now (b .entry)))) (psvOf (now (b .entry))) (sectionOf section))) r ⌝ }
+    ensures { λ r. ⌜ SpanShows (now (b .entry)) (containerJudged edition (now (b .entry))) (bytesBeside (containerJudged edition (now (b .entry))) (handed (editionRead edition (psvOf (now (b .entry)))) (psvOf (now (b .entry))) (sectionOf section))) Points.Unset r ⌝ }
 {
     let p = find_psv0(b, edition);
     let start = p.start;

@@ -15,10 +15,11 @@ use Rattle.lines.specs.Line.{numbers, acceptedLine, refusedLine, printable, nam
 use Rattle.lines.specs.Number.{decimal}
 use Rattle.part_table_layout.specs.Lookup.{find}
 use Rattle.part_table_layout.specs.Table.{countOf, offsetAt, nameAt, sizeAt, dataAt, endAt, earliest, partJudged, nameJudged, headerJudged, partsJudged, tableJudged}
+use Rattle.utf8_layout.specs.Sequence.{table, fits, front, more, after, counted as sequencesOf, wellFormed}
 use Rattle.psv0_layout.specs.Field.{maskWords, sum}
 use Rattle.psv0_layout.specs.Judged.{headJudged, fieldsJudged, bodyFits, elementJudged, elementsJudged, entryJudged, judgedAt}
 use Rattle.psv0_layout.specs.Layout.{defaultEdition, counted, afterCounted, countedFits, records, afterRecords, recordsFit, rows, sections, bodyOf, seen}
-use Rattle.psv0_layout.specs.Reference.{hasZero, untilZero, stringGood, stringAt, indexGood, arrayAt}
+use Rattle.psv0_layout.specs.Reference.{hasZero, untilZero, stringEnds, stringGood, stringAt, indexGood, arrayAt}
 use Rattle.wire.specs.Number.{u16At, u32At}
 use Rattle.wire.specs.Verdict.{_then_, check, when, from, each}
 use Rattle.wire.specs.declared.Verdict.the-variants.{Refused}
@@ -55,7 +56,7 @@ said =
     ∷ []
 
 pub boxes-hold : given ≡ said
-unfolding u16At u32At _then_ check when from each find countOf offsetAt nameAt sizeAt dataAt endAt earliest partJudged nameJudged headerJudged partsJudged tableJudged maskWords sum headJudged fieldsJudged bodyFits elementJudged elementsJudged entryJudged judgedAt counted afterCounted countedFits records afterRecords recordsFit rows sections bodyOf seen hasZero untilZero stringGood stringAt indexGood arrayAt psvOf beforePsv containerJudged isKnown decimal numbers acceptedLine refusedLine printable nameText mark partLine partLines printedIf printedAt inspected
+unfolding u16At u32At _then_ check when from each find countOf offsetAt nameAt sizeAt dataAt endAt earliest partJudged nameJudged headerJudged partsJudged tableJudged maskWords sum headJudged fieldsJudged bodyFits elementJudged elementsJudged entryJudged judgedAt counted afterCounted countedFits records afterRecords recordsFit rows sections bodyOf seen hasZero untilZero table fits front more after sequencesOf wellFormed stringEnds stringGood stringAt indexGood arrayAt psvOf beforePsv containerJudged isKnown decimal numbers acceptedLine refusedLine printable nameText mark partLine partLines printedIf printedAt inspected
 boxes-hold = refl
 
 -- a file that an opening without an edition refuses with 24 is printed as one of edition 3 that is accepted

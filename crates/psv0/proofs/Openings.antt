@@ -16,7 +16,7 @@ use Rattle.psv0_layout.specs.Layout.{editionRead}
 use Rattle.psv0_layout.specs.Shown.{unset, Question, shownAt, queried, answered}
 use Rattle.psv0_sections.specs.Places.{locatedOf}
 use Rattle.psv0_sections.specs.declared.Located.{Located}
-use Rattle.psv0_layout.specs.Answers.{refusedInfo, refusedResource, refusedElement, refusedLengths, refusedSpan, infoOf, lengthsOf, numberBeside, openingOf, infoAnswerOf, resourceAnswerOf, elementAnswerOf, lengthsAnswerOf, bytesOf, bytesBeside, SpanShows}
+use Rattle.psv0_layout.specs.Answers.{refusedInfo, refusedResource, refusedElement, refusedLengths, refusedSpan, infoOf, lengthsOf, numberBeside, openingOf, infoAnswerOf, resourceAnswerOf, elementAnswerOf, lengthsAnswerOf, questionOf, pointsOf, bytesOf, bytesBeside, SpanShows}
 use Rattle.psv0_layout.specs.Parts.{SpanAnswers}
 use Rattle.psv0.specs.Reading.{Reading}
 use Rattle.psv0_layout.specs.declared.ElementAnswer.{ElementAnswer}
@@ -24,11 +24,13 @@ use Rattle.psv0_layout.specs.declared.InfoAnswer.{InfoAnswer}
 use Rattle.psv0_layout.specs.declared.LengthsAnswer.{LengthsAnswer}
 use Rattle.psv0_layout.specs.declared.ListLengths.{ListLengths}
 use Rattle.psv0_layout.specs.declared.Opening.{Opening}
+use Rattle.psv0_layout.specs.declared.Points.{Points}
 use Rattle.psv0_layout.specs.declared.ResourceAnswer.{ResourceAnswer}
 use Rattle.psv0_layout.specs.declared.RuntimeInfo.{RuntimeInfo}
 use Rattle.psv0_layout.specs.declared.Span.{Span}
+use Rattle.psv0_layout.specs.declared.View.{View}
 use Rattle.psv0.proofs.Accepted.{head, edition-is}
-use Rattle.psv0_layout.proofs.Spans.{refused-shows}
+use Rattle.psv0_layout.proofs.Spans.{refused-shows, no-points}
 
 module _ (k : ℕ) (d : List ℕ) (l : Located) (e : l ≡ locatedOf k d) where
   verdict-is : l .verdict ≡ opened k d
@@ -80,12 +82,13 @@ module _ (k : ℕ) (d : List ℕ) (l : Located) (e : l ≡ locatedOf k d) where
     pub element-accepted : (i : ℕ) → elementAnswerOf Accepted (shownAt (l .places .edition) d) i ≡ elementAnswerOf (opened k d) (answered k d) i
     element-accepted i = ap₂ (λ o x. elementAnswerOf o x i) (sym opens) shown-is
 
-    pub span-accepted : (q : Question) (s : Span) → SpanAnswers d (shownAt (l .places .edition) d q) s
-        → SpanShows d (queried (opened k d) (answered k d q)) (bytesOf (answered k d q)) s
-    span-accepted q s h = rw (← shows q, opens) h
+    pub span-accepted : (v : View) (s : Span)
+        → SpanAnswers d (shownAt (l .places .edition) d (questionOf v)) (pointsOf v (shownAt (l .places .edition) d)) s
+        → SpanShows d (queried (opened k d) (answered k d (questionOf v))) (bytesOf (answered k d (questionOf v))) (pointsOf v (answered k d)) s
+    span-accepted v s h = rw (← shown-is, opens) h
 
-    pub section-accepted : (t : Section) (s : Span) → SpanShows d Accepted (handed (l .places .edition) d t) s
-        → SpanShows d (opened k d) (bytesBeside (opened k d) (handed (editionRead k d) d t)) s
+    pub section-accepted : (t : Section) (s : Span) → SpanShows d Accepted (handed (l .places .edition) d t) Points.Unset s
+        → SpanShows d (opened k d) (bytesBeside (opened k d) (handed (editionRead k d) d t)) Points.Unset s
     section-accepted t s h = rw opens (rw read-at at h)
 
   -- ---- an opening that refuses
@@ -120,15 +123,15 @@ module _ (k : ℕ) (d : List ℕ) (l : Located) (e : l ≡ locatedOf k d) where
     unfolding elementAnswerOf queried _then_
     element-refused i x h = h ∙ ap₂ (λ o x. elementAnswerOf o x i) (sym refuses) hidden
 
-    pub span-refused : (q : Question) (s : Span) → s ≡ refusedSpan n p
-        → SpanShows d (queried (opened k d) (answered k d q)) (bytesOf (answered k d q)) s
+    pub span-refused : (v : View) (s : Span) → s ≡ refusedSpan n p
+        → SpanShows d (queried (opened k d) (answered k d (questionOf v))) (bytesOf (answered k d (questionOf v))) (pointsOf v (answered k d)) s
     unfolding queried _then_
-    span-refused q s h = rw (h, ← hides q, refuses) (refused-shows d n p)
+    span-refused v s h = rw (h, ← hidden, refuses, no-points v) (refused-shows d n p)
 
     pub section-refused : (t : Section) (s : Span) → s ≡ refusedSpan n p
-        → SpanShows d (opened k d) (bytesBeside (opened k d) (handed (editionRead k d) d t)) s
+        → SpanShows d (opened k d) (bytesBeside (opened k d) (handed (editionRead k d) d t)) Points.Unset s
     section-refused t s h = rw (h, refuses) (refused-shows d n p)
 
 -- the bytes of a span
-pub span-slice : (d : List ℕ) {v : Verdict} {t : List ℕ} (s : Span) → SpanShows d v t s → take (s .start + s .len - s .start) (drop (s .start) d) ≡ t
+pub span-slice : (d : List ℕ) {v : Verdict} {t : List ℕ} {c : Points} (s : Span) → SpanShows d v t c s → take (s .start + s .len - s .start) (drop (s .start) d) ≡ t
 span-slice d s h = let q : s .start + s .len - s .start ≡ s .len = omega arith in rw q (h .bytes)

@@ -12,6 +12,7 @@ use lib.ListN.{length, getD, take, drop, length-drop}
 use lib.Seq.{length-take-le, take-take}
 use borrow.Author.Tests.{lt-ltb, le-ltb, leb-true}
 use Rattle.constants.specs.Edition.{sizeOf}
+use Rattle.utf8_layout.specs.Sequence.{wellFormed, codePoints}
 use Rattle.wire.specs.Number.{u32At}
 use Rattle.wire.specs.declared.Verdict.the-variants.{Accepted}
 use Rattle.wire.proofs.Choices.{choose-eq}
@@ -19,17 +20,19 @@ use Rattle.psv0_layout.specs.Field.{maskWords, sum, indexReference, rowCount}
 use Rattle.psv0_layout.specs.Handed.{Section, runtimeRecord, resourceRecords, stringTable, indexTable, elementRecords, masks, handed}
 use Rattle.psv0_layout.specs.Layout.{sections, seen, bodyOf, guideOf}
 use Rattle.psv0_layout.specs.Reference.{stringAt, stringGood, arrayAt}
-use Rattle.psv0_layout.specs.Shown.{Value, unset, number, view, stageUnion, ofElement, entryName, mask, setIf, maskAt, value, shownAt}
+use Rattle.psv0_layout.specs.Shown.{Value, unset, number, view, stageUnion, ofElement, entryName, entryPoints, mask, setIf, maskAt, value, shownAt}
 use Rattle.psv0_layout.proofs.Positions.{part-part, rows-length, row-at, runtime-at, runtime-u32, guide-seen}
-use Rattle.psv0_layout.proofs.References.{string-inside, string-is}
+use Rattle.psv0_layout.proofs.References.{good-parts, string-inside, string-is}
 use Rattle.psv0_sections.specs.Places.{headPlaces}
 use Rattle.psv0_sections.specs.declared.Places.{Places}
-use Rattle.psv0_layout.specs.Answers.{fieldOf, infoOf, resourceOf, elementOf, lengthsOf, resourceAnswerOf, elementAnswerOf, SpanShows, refusedResource, refusedElement, refusedSpan}
+use Rattle.psv0_layout.specs.Answers.{fieldOf, infoOf, resourceOf, elementOf, lengthsOf, resourceAnswerOf, elementAnswerOf, pointsIn, SpanShows, refusedResource, refusedElement, refusedSpan}
 use Rattle.psv0_layout.specs.Parts.{ofRuntime, resourceShown, elementShown, acceptedSpan, SpanAnswers}
 use Rattle.psv0.specs.Reading.{Reading, Short, lengthsAt}
 use Rattle.psv0_layout.specs.declared.ElementAnswer.{ElementAnswer}
 use Rattle.psv0_layout.specs.declared.ElementRecord.{ElementRecord}
 use Rattle.psv0_layout.specs.declared.Field.the-variants.{Set}
+use Rattle.psv0_layout.specs.declared.Points.{Points}
+use Rattle.psv0_layout.specs.declared.Points.the-variants.{Count}
 use Rattle.psv0_layout.specs.declared.ResourceAnswer.{ResourceAnswer}
 use Rattle.psv0_layout.specs.declared.ResourceRecord.{ResourceRecord}
 use Rattle.psv0_layout.specs.declared.Span.{Span}
@@ -64,12 +67,12 @@ sum-inside (x ∷ l) (suc m) = omega (arith, sum-inside l m)
 
 -- where a section lies
 abbrev pub spanOf : Places → Section → Span
-spanOf p runtimeRecord = acceptedSpan 4 (sizeOf (p .edition))
-spanOf p resourceRecords = acceptedSpan (p .resources) (p .«resource_count» * p .«resource_size»)
-spanOf p stringTable = acceptedSpan (p .strings) (p .«string_bytes»)
-spanOf p indexTable = acceptedSpan (p .indices) (p .«index_count» * 4)
-spanOf p elementRecords = acceptedSpan (p .elements) (p .«element_count» * p .«element_size»)
-spanOf p masks = acceptedSpan (p .masks) (p .«mask_bytes»)
+spanOf p runtimeRecord = acceptedSpan 4 (sizeOf (p .edition)) Points.Unset
+spanOf p resourceRecords = acceptedSpan (p .resources) (p .«resource_count» * p .«resource_size») Points.Unset
+spanOf p stringTable = acceptedSpan (p .strings) (p .«string_bytes») Points.Unset
+spanOf p indexTable = acceptedSpan (p .indices) (p .«index_count» * 4) Points.Unset
+spanOf p elementRecords = acceptedSpan (p .elements) (p .«element_count» * p .«element_size») Points.Unset
+spanOf p masks = acceptedSpan (p .masks) (p .«mask_bytes») Points.Unset
 
 module _ {d : List ℕ} {p : Places} (g : Reading d p) where
   -- ---- the runtime record
@@ -191,14 +194,29 @@ module _ {d : List ℕ} {p : Places} (g : Reading d p) where
 
   -- ---- strings and arrays, at good references
   module _ (h : 1 ≤ p .edition) where
-    pub string-read : (o n : ℕ) → stringGood (sections d .strings) o ≡ true
+    pub string-read : (o n m : ℕ) → stringGood (sections d .strings) o ≡ true
         → n ≡ length (stringAt (take (p .strings + p .«string_bytes» - p .strings) (drop (p .strings) d)) o)
-        → SpanShows d Accepted (stringAt (sections d .strings) o) (acceptedSpan (p .strings + o) n)
-    string-read o n e q =
+        → (wellFormed (take (o + n - o) (drop o (take (p .strings + p .«string_bytes» - p .strings) (drop (p .strings) d)))) ≡ true
+        → m ≡ codePoints (take (o + n - o) (drop o (take (p .strings + p .«string_bytes» - p .strings) (drop (p .strings) d)))))
+        → SpanShows d Accepted (stringAt (sections d .strings) o) (Count (codePoints (stringAt (sections d .strings) o))) (acceptedSpan (p .strings + o) n (Count m))
+    string-read o n m e q f =
+        let b = body g h in
+        let t = slice-size (p .strings) (p .«string_bytes») in
+        let w = slice-size o n in
+        let (i, r) = string-is (sections d .strings) o n (rw (t, b .strings) at q) (omega (arith, string-inside (sections d .strings) o e)) in
+        let c : m ≡ codePoints (stringAt (sections d .strings) o) = (rw (t, w, b .strings, ← r) at f) (good-parts (sections d .strings) o e .1) in
+        rw c (string-shows d (sections d .strings) (p .strings) (p .«string_bytes») (b .strings) (b .stringsFit) o n (Count (codePoints (stringAt (sections d .strings) o))) i r)
+
+    -- the string, taken out of its table, lies inside
+    pub string-fits : (o n : ℕ) → stringGood (sections d .strings) o ≡ true
+        → n ≡ length (stringAt (take (p .strings + p .«string_bytes» - p .strings) (drop (p .strings) d)) o)
+        → (o + n ≤ length (take (p .strings + p .«string_bytes» - p .strings) (drop (p .strings) d))) × (p .strings + o + n ≤ length d)
+    string-fits o n e q =
         let b = body g h in
         let t = slice-size (p .strings) (p .«string_bytes») in
         let (i, r) = string-is (sections d .strings) o n (rw (t, b .strings) at q) (omega (arith, string-inside (sections d .strings) o e)) in
-        string-shows d (sections d .strings) (p .strings) (p .«string_bytes») (b .strings) (b .stringsFit) o n i r
+        let l = stretch-length d (sections d .strings) (p .strings) (p .«string_bytes») (b .strings) (b .stringsFit) in
+        (rw (t, b .strings) i, omega (arith, b .stringsFit))
 
   -- element i of the list is e, its index reference c, its rows r
   pub array-read : (i : ℕ) → i < p .«element_count» → {e : List ℕ} (c r : ℕ)
@@ -206,7 +224,8 @@ module _ {d : List ℕ} {p : Places} (g : Reading d p) where
       → SpanShows d Accepted
       (arrayAt (sections d .indices) (indexReference (getD (seen 1 (sections d) .body .elements) i []))
       (rowCount (getD (seen 1 (sections d) .body .elements) i [])))
-      (acceptedSpan (p .indices + c * 4) (r * 4))
+      Points.Unset
+      (acceptedSpan (p .indices + c * 4) (r * 4) Points.Unset)
   array-read i l c r q qc qr =
       let one = from-one i l in
       let b = body g one in
@@ -216,18 +235,31 @@ module _ {d : List ℕ} {p : Places} (g : Reading d p) where
   -- ---- views
   module _ (i : ℕ) (s : Span) where
     -- what element i refers to
-    pub element-shows : (l : List ℕ) → i < p .«element_count» → SpanShows d Accepted l s
-        → SpanAnswers d (setIf (leb 1 (p .edition)) (ofElement (seen 1 (sections d) .body) i (view l))) s
-    element-shows l h w =
+    pub element-shows : (l : List ℕ) (c : Points) → i < p .«element_count» → SpanShows d Accepted l c s
+        → SpanAnswers d (setIf (leb 1 (p .edition)) (ofElement (seen 1 (sections d) .body) i (view l))) c s
+    element-shows l c h w =
         let one = from-one i h in
-        answers d l (setIf (leb 1 (p .edition)) (ofElement (seen 1 (sections d) .body) i (view l))) s
+        answers d l (setIf (leb 1 (p .edition)) (ofElement (seen 1 (sections d) .body) i (view l))) c s
         (of-element (p .edition) d i (view l) one (rw (body g one .count) at h)) w
 
     pub element-hides : (x : Value) → p .«element_count» ≤ i → s ≡ refusedSpan 26 0
-        → SpanAnswers d (setIf (leb 1 (p .edition)) (ofElement (seen 1 (sections d) .body) i x)) s
+        → SpanAnswers d (setIf (leb 1 (p .edition)) (ofElement (seen 1 (sections d) .body) i x)) Points.Unset s
     element-hides x h e =
         rw e
         (no-answer d (setIf (leb 1 (p .edition)) (ofElement (seen 1 (sections d) .body) i x)) (of-none (p .edition) d i x (missing i h)))
+
+    -- its string, with the code points
+    pub string-answer : (l : List ℕ) (n : ℕ) → i < p .«element_count» → SpanShows d Accepted l (Count n) s
+        → SpanAnswers d (setIf (leb 1 (p .edition)) (ofElement (seen 1 (sections d) .body) i (view l)))
+        (pointsIn (setIf (leb 1 (p .edition)) (ofElement (seen 1 (sections d) .body) i (number n)))) s
+    string-answer l n h w =
+        let one = from-one i h in
+        rw (← of-element (p .edition) d i (number n) one (rw (body g one .count) at h)) (element-shows l (Count n) h w)
+
+    pub no-string : (x y : Value) → p .«element_count» ≤ i → s ≡ refusedSpan 26 0
+        → SpanAnswers d (setIf (leb 1 (p .edition)) (ofElement (seen 1 (sections d) .body) i x))
+        (pointsIn (setIf (leb 1 (p .edition)) (ofElement (seen 1 (sections d) .body) i y))) s
+    no-string x y h e = rw (← of-none (p .edition) d i y (missing i h)) (element-hides x h e)
 
   -- the entry name, whose reference stands in the runtime record
   pub entry-reference : 3 ≤ p .edition → u32At d 52 ≡ u32At (seen 3 (sections d) .runtime) 48
@@ -235,23 +267,30 @@ module _ {d : List ℕ} {p : Places} (g : Reading d p) where
 
   module _ (s : Span) where
     pub name-answer : 3 ≤ p .edition
-        → SpanShows d Accepted (stringAt (sections d .strings) (u32At (seen 3 (sections d) .runtime) 48)) s
-        → SpanAnswers d (shownAt (p .edition) d entryName) s
+        → SpanShows d Accepted (stringAt (sections d .strings) (u32At (seen 3 (sections d) .runtime) 48))
+        (Count (codePoints (stringAt (sections d .strings) (u32At (seen 3 (sections d) .runtime) 48)))) s
+        → SpanAnswers d (shownAt (p .edition) d entryName) (pointsIn (shownAt (p .edition) d entryPoints)) s
     unfolding shownAt value bodyOf seen
-    name-answer h w = answers d _ (shownAt (p .edition) d entryName) s (set-from 3 (p .edition) (view _) h) w
+    name-answer h w =
+        let n = codePoints (stringAt (sections d .strings) (u32At (seen 3 (sections d) .runtime) 48)) in
+        rw (← set-from 3 (p .edition) (number n) h)
+        (answers d _ (shownAt (p .edition) d entryName) (Count n) s (set-from 3 (p .edition) (view _) h) w)
 
-    pub no-name : p .edition < 3 → s ≡ refusedSpan 26 0 → SpanAnswers d (shownAt (p .edition) d entryName) s
+    pub no-name : p .edition < 3 → s ≡ refusedSpan 26 0
+        → SpanAnswers d (shownAt (p .edition) d entryName) (pointsIn (shownAt (p .edition) d entryPoints)) s
     unfolding shownAt
-    no-name h e = rw e (no-answer d (shownAt (p .edition) d entryName) (unset-before 3 (p .edition) _ h))
+    no-name h e =
+        rw (e, ← unset-before 3 (p .edition) (value entryPoints (seen 3 (sections d))) h)
+        (no-answer d (shownAt (p .edition) d entryName) (unset-before 3 (p .edition) _ h))
 
-    pub union-answer : s ≡ acceptedSpan 4 16 → SpanAnswers d (shownAt (p .edition) d stageUnion) s
+    pub union-answer : s ≡ acceptedSpan 4 16 Points.Unset → SpanAnswers d (shownAt (p .edition) d stageUnion) Points.Unset s
     unfolding shownAt value seen
     union-answer e =
         let least = head g .least in
         let r = sections d .runtime in
-        let w = part-shows d r 4 (p .size) (head g .runtime) (head g .runtimeFits) 0 16 (omega arith) in
+        let w = part-shows d r 4 (p .size) (head g .runtime) (head g .runtimeFits) 0 16 Points.Unset (omega arith) in
         let q = ap view (sym (take-take 16 24 r (omega arith))) ∙ set-from 0 (p .edition) (view (take 16 (take 24 r))) (omega arith) in
-        rw e (answers d (take 16 r) (shownAt (p .edition) d stageUnion) (acceptedSpan 4 16) q w)
+        rw e (answers d (take 16 r) (shownAt (p .edition) d stageUnion) Points.Unset (acceptedSpan 4 16 Points.Unset) q w)
 
   -- ---- masks; what edition 1 sees of the runtime record says where each lies: after b words, in w words
   pub guide-inside : 1 ≤ p .edition → 40 ≤ length d
@@ -268,7 +307,7 @@ module _ {d : List ℕ} {p : Places} (g : Reading d p) where
     pub mask-inside : p .masks + b * 4 + w * 4 ≤ length d
     mask-inside = omega (arith, room, body g h .masksFit)
 
-    pub mask-answer : (s : Span) → m < 11 → s ≡ acceptedSpan (p .masks + b * 4) (w * 4) → SpanAnswers d (shownAt (p .edition) d (mask m)) s
+    pub mask-answer : (s : Span) → m < 11 → s ≡ acceptedSpan (p .masks + b * 4) (w * 4) Points.Unset → SpanAnswers d (shownAt (p .edition) d (mask m)) Points.Unset s
     unfolding shownAt value bodyOf seen sections
     mask-answer s l e =
         let q = body g h in
@@ -276,13 +315,13 @@ module _ {d : List ℕ} {p : Places} (g : Reading d p) where
         let x = view (maskAt (guideOf d) (sections d .masks) m) in
         let here : view bytes ≡ x = rw (before, words, guide) in
         let known : x ≡ setIf (ltb m 11) x = simp (lt-ltb m 11 l) in
-        let shows = part-shows d (sections d .masks) (p .masks) (p .«mask_bytes») (q .masks) (q .masksFit) (b * 4) (w * 4) room in
+        let shows = part-shows d (sections d .masks) (p .masks) (p .«mask_bytes») (q .masks) (q .masksFit) (b * 4) (w * 4) Points.Unset room in
         rw e
-        (answers d bytes (shownAt (p .edition) d (mask m)) (acceptedSpan (p .masks + b * 4) (w * 4))
+        (answers d bytes (shownAt (p .edition) d (mask m)) Points.Unset (acceptedSpan (p .masks + b * 4) (w * 4) Points.Unset)
         (here ∙ known ∙ set-from 1 (p .edition) (setIf (ltb m 11) x) h) shows)
 
   module _ (m : ℕ) (s : Span) where
-    pub no-mask : (1 ≤ p .edition → 11 ≤ m) → s ≡ refusedSpan 26 0 → SpanAnswers d (shownAt (p .edition) d (mask m)) s
+    pub no-mask : (1 ≤ p .edition → 11 ≤ m) → s ≡ refusedSpan 26 0 → SpanAnswers d (shownAt (p .edition) d (mask m)) Points.Unset s
     unfolding shownAt value
     no-mask h e = rw e (no-answer d (shownAt (p .edition) d (mask m)) (go (leb 1 (p .edition)) (leb-true 1 (p .edition))))
       where
@@ -291,10 +330,10 @@ module _ {d : List ℕ} {p : Places} (g : Reading d p) where
         go false f = refl
 
   -- ---- the bytes of each section
-  pub section-read : (t : Section) → SpanShows d Accepted (handed (p .edition) d t) (spanOf p t)
+  pub section-read : (t : Section) → SpanShows d Accepted (handed (p .edition) d t) Points.Unset (spanOf p t)
   unfolding handed headPlaces
   section-read runtimeRecord =
-      part-shows d (sections d .runtime) 4 (p .size) (head g .runtime) (head g .runtimeFits) 0 (sizeOf (p .edition)) (omega (arith, long g (p .edition) (omega arith)))
+      part-shows d (sections d .runtime) 4 (p .size) (head g .runtime) (head g .runtimeFits) 0 (sizeOf (p .edition)) Points.Unset (omega (arith, long g (p .edition) (omega arith)))
   section-read resourceRecords = whole-shows d _ (p .resources) _ (head g .resources) (head g .resourcesFit)
   section-read stringTable =
       from-one-shows d _ (p .edition) (p .strings) _ (λ h. (body g h .strings, body g h .stringsFit))

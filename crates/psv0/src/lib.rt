@@ -7,6 +7,7 @@ use psv0_layout::InfoAnswer;
 use psv0_layout::LengthsAnswer;
 use psv0_layout::ListLengths;
 use psv0_layout::Opening;
+use psv0_layout::Points;
 use psv0_layout::ResourceAnswer;
 use psv0_layout::ResourceRecord;
 use psv0_layout::RuntimeInfo;
@@ -22,6 +23,7 @@ ghost use Prim.Native.Nat.{_+_, _*_, _≤_, _<_};
 ghost use lib.Dec.{leb, eqb};
 ghost use lib.ListN.{length, getD, take, drop};
 ghost use Rattle.constants.specs.Edition.{fileEdition};
+ghost use Rattle.utf8_layout.specs.Sequence.{codePoints};
 ghost use Rattle.wire.specs.Number.{u16At, u32At};
 ghost use Rattle.psv0_layout.specs.Field.{stage, hasPatchVectors, hasThreads};
 ghost use Rattle.psv0_layout.specs.Reference.{stringAt, stringGood};
@@ -29,8 +31,8 @@ ghost use Rattle.wire.specs.declared.Verdict.the-variants.{Accepted};
 ghost use Rattle.psv0_layout.specs.Handed.{handed};
 ghost use Rattle.psv0_layout.specs.Judged.{opened};
 ghost use Rattle.psv0_layout.specs.Layout.{editionRead, sections, seen};
-ghost use Rattle.psv0_layout.specs.Shown.{number, stageUnion, elementString, elementArray, entryName, mask, setIf, shownAt, answered, queried};
-ghost use Rattle.psv0_layout.specs.Answers.{fieldOf, infoOf, resourceOf, elementOf, openingOf, infoAnswerOf, resourceAnswerOf, elementAnswerOf, lengthsAnswerOf, refusedInfo, refusedResource, refusedElement, refusedLengths, refusedSpan, questionOf, sectionOf, bytesOf, bytesBeside, SpanShows};
+ghost use Rattle.psv0_layout.specs.Shown.{number, stageUnion, elementString, elementPoints, elementArray, entryName, entryPoints, mask, setIf, shownAt, answered, queried};
+ghost use Rattle.psv0_layout.specs.Answers.{fieldOf, infoOf, resourceOf, elementOf, openingOf, infoAnswerOf, resourceAnswerOf, elementAnswerOf, lengthsAnswerOf, refusedInfo, refusedResource, refusedElement, refusedLengths, refusedSpan, questionOf, pointsIn, pointsOf, sectionOf, bytesOf, bytesBeside, SpanShows};
 ghost use Rattle.psv0_layout.specs.Parts.{ofRuntime, resourceShown, elementShown, acceptedSpan, SpanAnswers};
 ghost use Rattle.psv0.specs.Reading.{Reading, Short, lengthsAt};
 
@@ -125,6 +127,7 @@ pub fn refused_span(number: u8, place: usize) -> Span
         verdict: Verdict::Refused(number, place),
         start: 0,
         len: 0,
+        points: Points::Unset,
     }
 }
 
@@ -353,30 +356,34 @@ fn lengths_at(p: Places) -> ListLengths
     }
 }
 
-fn accepted_span(start: usize, len: usize) -> Span
-    ensures { λ s. ⌜ s ≡ acceptedSpan start len ⌝ }
+fn accepted_span(start: usize, len: usize, points: Points) -> Span
+    ensures { λ s. ⌜ s ≡ acceptedSpan start len points ⌝ }
 {
     Span {
         verdict: Verdict::Accepted,
         start,
         len,
+        points,
     }
 }
 
-// The string at a good reference.
+// The string at a good reference, with its code points.
 fn string_span(d: &[u8], p: Places, o: usize) -> Span
     requires { ⌜ Reading (now d) p × (1 ≤ p .edition) × (stringGood (sections (now d) .strings) o ≡ true) ⌝ }
-    ensures { λ s. ⌜ SpanShows (now (d .entry)) Accepted (stringAt (sections (now (d .entry)) .strings) o) s ⌝ }
+    ensures { λ s. ⌜ SpanShows (now (d .entry)) Accepted (stringAt (sections (now (d .entry)) .strings) o) (Points.Count (codePoints (stringAt (sections (now (d .entry)) .strings) o))) s ⌝ }
 {
     let start = p.strings;
     let end = start + p.string_bytes;
-    let len = strings::len_at(&d[start..end], o);
-    accepted_span(start + o, len)
+    let t = &d[start..end];
+    let len = strings::len_at(t, o);
+    let to = o + len;
+    let points = utf8::code_points(&t[o..to]);
+    accepted_span(start + o, len, Points::Count(points))
 }
 
 fn element_string(d: &[u8], p: Places, i: usize) -> Span
     requires { ⌜ Reading (now d) p ⌝ }
-    ensures { λ s. ⌜ SpanAnswers (now (d .entry)) (shownAt (p .edition) (now (d .entry)) (elementString i)) s ⌝ }
+    ensures { λ s. ⌜ SpanAnswers (now (d .entry)) (shownAt (p .edition) (now (d .entry)) (elementString i)) (pointsIn (shownAt (p .edition) (now (d .entry)) (elementPoints i))) s ⌝ }
 {
     if p.element_count <= i {
         return refused_span(26, 0);
@@ -386,7 +393,7 @@ fn element_string(d: &[u8], p: Places, i: usize) -> Span
 
 fn element_array(d: &[u8], p: Places, i: usize) -> Span
     requires { ⌜ Reading (now d) p ⌝ }
-    ensures { λ s. ⌜ SpanAnswers (now (d .entry)) (shownAt (p .edition) (now (d .entry)) (elementArray i)) s ⌝ }
+    ensures { λ s. ⌜ SpanAnswers (now (d .entry)) (shownAt (p .edition) (now (d .entry)) (elementArray i)) Points.Unset s ⌝ }
 {
     if p.element_count <= i {
         return refused_span(26, 0);
@@ -394,12 +401,12 @@ fn element_array(d: &[u8], p: Places, i: usize) -> Span
     let indices = p.indices;
     let e = element_row(d, p, i);
     let first = indices + wire::u32_at(e, 4) as usize * 4;
-    accepted_span(first, wire::byte_at(e, 8) as usize * 4)
+    accepted_span(first, wire::byte_at(e, 8) as usize * 4, Points::Unset)
 }
 
 fn entry_name(d: &[u8], p: Places) -> Span
     requires { ⌜ Reading (now d) p ⌝ }
-    ensures { λ s. ⌜ SpanAnswers (now (d .entry)) (shownAt (p .edition) (now (d .entry)) entryName) s ⌝ }
+    ensures { λ s. ⌜ SpanAnswers (now (d .entry)) (shownAt (p .edition) (now (d .entry)) entryName) (pointsIn (shownAt (p .edition) (now (d .entry)) entryPoints)) s ⌝ }
 {
     if p.edition < 3 {
         return refused_span(26, 0);
@@ -409,14 +416,14 @@ fn entry_name(d: &[u8], p: Places) -> Span
 
 fn stage_union(d: &[u8], p: Places) -> Span
     requires { ⌜ Reading (now d) p ⌝ }
-    ensures { λ s. ⌜ SpanAnswers (now (d .entry)) (shownAt (p .edition) (now (d .entry)) stageUnion) s ⌝ }
+    ensures { λ s. ⌜ SpanAnswers (now (d .entry)) (shownAt (p .edition) (now (d .entry)) stageUnion) Points.Unset s ⌝ }
 {
-    accepted_span(4, 16)
+    accepted_span(4, 16, Points::Unset)
 }
 
 fn mask_in(d: &[u8], p: Places, m: usize) -> Span
     requires { ⌜ Reading (now d) p ⌝ }
-    ensures { λ s. ⌜ SpanAnswers (now (d .entry)) (shownAt (p .edition) (now (d .entry)) (mask m)) s ⌝ }
+    ensures { λ s. ⌜ SpanAnswers (now (d .entry)) (shownAt (p .edition) (now (d .entry)) (mask m)) Points.Unset s ⌝ }
 {
     if p.edition < 1 {
         return refused_span(26, 0);
@@ -426,12 +433,16 @@ fn mask_in(d: &[u8], p: Places, m: usize) -> Span
     }
     let r = &d[4..40];
     let before = psv0_sections::words_before(r, m);
-    accepted_span(p.masks + before * 4, psv0_sections::mask_words(r, m) * 4)
+    accepted_span(
+        p.masks + before * 4,
+        psv0_sections::mask_words(r, m) * 4,
+        Points::Unset,
+    )
 }
 
 fn view_in(d: &[u8], p: Places, view: View) -> Span
     requires { ⌜ Reading (now d) p ⌝ }
-    ensures { λ s. ⌜ SpanAnswers (now (d .entry)) (shownAt (p .edition) (now (d .entry)) (questionOf view)) s ⌝ }
+    ensures { λ s. ⌜ SpanAnswers (now (d .entry)) (shownAt (p .edition) (now (d .entry)) (questionOf view)) (pointsOf view (shownAt (p .edition) (now (d .entry)))) s ⌝ }
 {
     match view {
         View::StageUnion => stage_union(d, p),
@@ -445,15 +456,27 @@ fn view_in(d: &[u8], p: Places, view: View) -> Span
 // The bytes of a section that are handed out for writing again.
 fn section_in(d: &[u8], p: Places, section: Section) -> Span
     requires { ⌜ Reading (now d) p ⌝ }
-    ensures { λ s. ⌜ SpanShows (now (d .entry)) Accepted (handed (p .edition) (now (d .entry)) (sectionOf section)) s ⌝ }
+    ensures { λ s. ⌜ SpanShows (now (d .entry)) Accepted (handed (p .edition) (now (d .entry)) (sectionOf section)) Points.Unset s ⌝ }
 {
     match section {
-        Section::RuntimeRecord => accepted_span(4, constants::edition_size(p.edition)),
-        Section::ResourceRecords => accepted_span(p.resources, p.resource_count * p.resource_size),
-        Section::StringTable => accepted_span(p.strings, p.string_bytes),
-        Section::IndexTable => accepted_span(p.indices, p.index_count * 4),
-        Section::ElementRecords => accepted_span(p.elements, p.element_count * p.element_size),
-        Section::Masks => accepted_span(p.masks, p.mask_bytes),
+        Section::RuntimeRecord => accepted_span(
+            4,
+            constants::edition_size(p.edition),
+            Points::Unset,
+        ),
+        Section::ResourceRecords => accepted_span(
+            p.resources,
+            p.resource_count * p.resource_size,
+            Points::Unset,
+        ),
+        Section::StringTable => accepted_span(p.strings, p.string_bytes, Points::Unset),
+        Section::IndexTable => accepted_span(p.indices, p.index_count * 4, Points::Unset),
+        Section::ElementRecords => accepted_span(
+            p.elements,
+            p.element_count * p.element_size,
+            Points::Unset,
+        ),
+        Section::Masks => accepted_span(p.masks, p.mask_bytes, Points::Unset),
     }
 }
 
@@ -540,9 +563,9 @@ pub fn lengths(d: &[u8], edition: usize) -> LengthsAnswer
     }
 }
 
-// Where the bytes of a view lie.
+// Where the bytes of a view lie, with the code points of a string.
 pub fn view_span(d: &[u8], edition: usize, view: View) -> Span
-    ensures { λ s. ⌜ SpanShows (now (d .entry)) (queried (opened edition (now (d .entry))) (answered edition (now (d .entry)) (questionOf view))) (bytesOf (answered edition (now (d .entry)) (questionOf view))) s ⌝ }
+    ensures { λ s. ⌜ SpanShows (now (d .entry)) (queried (opened edition (now (d .entry))) (answered edition (now (d .entry)) (questionOf view))) (bytesOf (answered edition (now (d .entry)) (questionOf view))) (pointsOf view (answered edition (now (d .entry)))) s ⌝ }
 {
     let l = psv0_sections::locate(d, edition);
     let v = l.verdict;
@@ -565,7 +588,7 @@ pub fn view_bytes<'a>(d: &'a [u8], edition: usize, view: View) -> &'a [u8]
 
 // Where the bytes lie that are handed out of a section.
 pub fn section_span(d: &[u8], edition: usize, section: Section) -> Span
-    ensures { λ s. ⌜ SpanShows (now (d .entry)) (opened edition (now (d .entry))) (bytesBeside (opened edition (now (d .entry))) (handed (editionRead edition (now (d .entry))) (now (d .entry)) (sectionOf section))) s ⌝ }
+    ensures { λ s. ⌜ SpanShows (now (d .entry)) (opened edition (now (d .entry))) (bytesBeside (opened edition (now (d .entry))) (handed (editionRead edition (now (d .entry))) (now (d .entry)) (sectionOf section))) Points.Unset s ⌝ }
 {
     let l = psv0_sections::locate(d, edition);
     let v = l.verdict;

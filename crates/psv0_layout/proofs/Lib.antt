@@ -11,6 +11,7 @@ pub mod Positions
 pub mod Records
 pub mod References
 pub mod Spans
+pub mod Strings
 pub mod Wholes
 pub mod Widening
 pub mod Wider

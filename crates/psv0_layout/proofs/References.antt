@@ -1,27 +1,45 @@
 -- String and index references, by position in the tables; and the loop that judges the references of the elements.
 -- Assumes nothing.
 use Prim.Native.Nat.{ℕ, zero, suc, _+_, _-_, _*_, _≤_, _<_, compare·suc-suc}
-use mathlib.Core.Path.{_≡_, refl, sym, ap}
-use mathlib.Core.Bool.{Bool, true, false, _&&_}
+use mathlib.Core.Path.{_≡_, refl, sym, ap, _∙_}
+use mathlib.Core.Bool.{Bool, true, false, _&&_, not}
 use mathlib.Core.List.{List, [], _∷_}
 use mathlib.Core.Logic.{inl, inr, ⊎-elim}
 use native.Mathlib.Omega.{arith}
 use native.Mathlib.Numerals.{add-one}
-use lib.Dec.{ltb}
+use lib.Dec.{ltb, eqb}
 use lib.ListN.{length, getD, take, drop, length-take, length-drop}
-use lib.Seq.{getD-take, getD-drop}
-use borrow.Author.Tests.{lt-ltb, le-ltb, le-leb, lt-leb, leb-true, ltb-true, ltb-false}
+use lib.Seq.{take-all, getD-take, getD-drop}
+use borrow.Author.Tests.{lt-ltb, le-ltb, le-leb, lt-leb, leb-true, ltb-true, ltb-false, eq-eqb, ne-eqb, not-true, not-false}
+use Rattle.utf8_layout.specs.Sequence.{after, counted, wellFormed}
+use Rattle.utf8_layout.proofs.Joined.{whole-more}
+use Rattle.utf8_layout.proofs.Rows.{front-plain}
 use Rattle.wire.specs.Number.{u32At}
+use Rattle.wire.specs.Search.{first}
 use Rattle.wire.specs.Verdict.{_then_, check, each}
 use Rattle.wire.specs.declared.Verdict.the-variants.{Accepted, Refused}
 use Rattle.wire.proofs.Choices.{both}
+use Rattle.wire.proofs.Searches.{first-below, first-at}
 use Rattle.wire.proofs.Verdicts.{each-stop, each-next}
 use Rattle.psv0_layout.specs.Field.{nameOffset, indexReference, rowCount}
 use Rattle.psv0_layout.specs.Judged.{elementJudged, elementsJudged}
 use Rattle.psv0_layout.specs.Layout.{Body}
-use Rattle.psv0_layout.specs.Position.{NoZero, UpToLastZero}
-use Rattle.psv0_layout.specs.Reference.{hasZero, untilZero, stringGood, stringAt, indexTotal, indexGood, arrayAt}
+use Rattle.psv0_layout.specs.Position.{NoZero, UpToLastZero, PlainFrom, Decided}
+use Rattle.psv0_layout.specs.Reference.{hasZero, untilZero, stringEnds, stringGood, stringAt, indexTotal, indexGood, arrayAt}
 use Rattle.psv0_layout.proofs.Positions.{part-u32}
+
+-- ---- tests
+and-true : (s : Bool) → (s && true) ≡ s
+and-true true = refl
+and-true false = refl
+
+pub and-false : (s : Bool) → (s && false) ≡ false
+and-false true = refl
+and-false false = refl
+
+-- a slice of all bytes
+pub whole-slice : (l : List ℕ) → take (length l - 0) (drop 0 l) ≡ l
+whole-slice l = take-all (length l - 0) l (omega arith)
 
 -- ---- zero bytes in a list
 zero-in : (l : List ℕ) (i : ℕ) → i < length l → getD l i 0 ≡ 0 → hasZero l ≡ true
@@ -91,15 +109,11 @@ module _ (t : List ℕ) where
       record { inside = omega arith; ends = inr (rw z e); none = f }
 
 -- ---- string references
--- the last zero byte decides all of them
-pub string-good : (t : List ℕ) (m o : ℕ) → UpToLastZero t m → stringGood t o ≡ ltb o m
-unfolding stringGood
-string-good t m o u = go (ltb o m) refl
+-- the last zero byte decides which strings end
+pub string-ends : (t : List ℕ) (m o : ℕ) → UpToLastZero t m → stringEnds t o ≡ ltb o m
+unfolding stringEnds
+string-ends t m o u = go (ltb o m) refl
   where
-    neither : (s : Bool) → (s && false) ≡ false
-    neither true = refl
-    neither false = refl
-
     go : (b : Bool) → ltb o m ≡ b → (ltb o (length t) && hasZero (drop o t)) ≡ b
     go true p =
         let l : o < m = ltb-true o m p in
@@ -110,7 +124,7 @@ string-good t m o u = go (ltb o m) refl
     go false p =
         let l : m ≤ o = ltb-false o m p in
         let z : hasZero (drop o t) ≡ false = no-zero-from t o (λ j a. u .none j (omega arith)) in
-        rw z (neither (ltb o (length t)))
+        rw z (and-false (ltb o (length t)))
 
 -- a string, byte by byte: it ends at a zero byte, and past the end of the table
 pub string-stops : (t : List ℕ) (i : ℕ) → getD t i 0 ≡ 0 → stringAt t i ≡ []
@@ -143,10 +157,10 @@ string-is t o n e h =
     let (l, q) = until-front (drop o t) in
     (omega (arith, simp length-drop at l), rw e q)
 
--- its length tells whether the reference is good
-pub good-length : (t : List ℕ) (o : ℕ) → stringGood t o ≡ ltb (o + length (stringAt t o)) (length t)
-unfolding stringGood stringAt
-good-length t o = rw (zero-follows (drop o t), length-drop) (go (ltb o (length t)) refl)
+-- its length tells whether it ends
+pub ends-length : (t : List ℕ) (o : ℕ) → stringEnds t o ≡ ltb (o + length (stringAt t o)) (length t)
+unfolding stringEnds stringAt
+ends-length t o = rw (zero-follows (drop o t), length-drop) (go (ltb o (length t)) refl)
   where
     n : ℕ
     n = length (untilZero (drop o t))
@@ -159,10 +173,55 @@ good-length t o = rw (zero-follows (drop o t), length-drop) (go (ltb o (length t
     go true e = rest (ltb-true o (length t) e) (ltb n (length t - o)) refl
     go false e = let l = ltb-false o (length t) e in sym (le-ltb (o + n) (length t) (omega arith))
 
--- a good reference lies inside
-pub string-inside : (t : List ℕ) (o : ℕ) → stringGood t o ≡ true → o < length t
+-- the string at a good reference ends and is well formed; the reference lies inside
+pub good-parts : (t : List ℕ) (o : ℕ) → stringGood t o ≡ true → (stringEnds t o ≡ true) × (wellFormed (stringAt t o) ≡ true)
 unfolding stringGood
-string-inside t o e = ltb-true o (length t) (both (ltb o (length t)) _ e .0)
+good-parts t o e = both (stringEnds t o) (wellFormed (stringAt t o)) e
+
+pub string-inside : (t : List ℕ) (o : ℕ) → stringGood t o ≡ true → o < length t
+unfolding stringEnds
+string-inside t o e = ltb-true o (length t) (both (ltb o (length t)) _ (good-parts t o e .0) .0)
+
+-- where every byte is below 0x80, the end alone decides
+pub plain-well : (l : List ℕ) → PlainFrom l 0 → wellFormed l ≡ true
+unfolding wellFormed counted after
+plain-well [] f = refl
+plain-well (x ∷ l) f =
+    rw (front-plain x l (f 0 (omega arith) (omega arith)))
+    (whole-more (counted l 0) ∙ plain-well l (λ j a b. f (suc j) (omega arith) (omega arith)))
+
+plain-until : (l : List ℕ) → PlainFrom l 0 → wellFormed (untilZero l) ≡ true
+plain-until l f =
+    let (h, e) = until-front l in
+    plain-well (untilZero l)
+    (λ j a b. rw (ap (λ (z : List ℕ). getD z j 0) e, getD-take (length (untilZero l)) l j 0 b) (f j a (omega arith)))
+
+plain-rest : (t : List ℕ) (i o : ℕ) → PlainFrom t i → i ≤ o → PlainFrom (drop o t) 0
+plain-rest t i o f h j a b = rw getD-drop (f (o + j) (omega arith) (omega (arith, simp length-drop at b)))
+
+pub plain-good : (t : List ℕ) (i m o : ℕ) → PlainFrom t i → UpToLastZero t m → i ≤ o → stringGood t o ≡ ltb o m
+unfolding stringGood stringAt
+plain-good t i m o f u h = rw (plain-until (drop o t) (plain-rest t i o f h), string-ends t m o u) (and-true (ltb o m))
+
+-- ---- how references are decided: by the end alone where every byte is below 0x80, and where the first that isn't good is known
+module _ (t : List ℕ) (ref : ℕ → ℕ) (n m : ℕ) (u : UpToLastZero t m) where
+  pub decided-plain : PlainFrom t 0 → Decided t ref n m n
+  decided-plain f = record { told = λ i h l. plain-good t 0 m (ref i) f u (omega arith) ∙ rw (ne-eqb i n (λ e. omega arith)) (sym (and-true (ltb (ref i) m))) }
+
+  pub decided-first : (ill : ℕ) → ill ≡ first (λ i. not (stringGood t (ref i))) n → Decided t ref n m ill
+  decided-first ill e = record { told = λ i h l. go i h (ltb i ill) refl l }
+    where
+      go : (i : ℕ) → i < n → (s : Bool) → ltb i ill ≡ s → i ≤ ill → stringGood t (ref i) ≡ (ltb (ref i) m && not (eqb i ill))
+      go i h true q l =
+          let k = ltb-true i ill q in
+          let g : stringGood t (ref i) ≡ true = not-false (stringGood t (ref i)) (first-below (λ i. not (stringGood t (ref i))) n i (rw (← e) k)) in
+          let b : ltb (ref i) m ≡ true = sym (string-ends t m (ref i) u) ∙ good-parts t (ref i) g .0 in
+          rw (g, b, ne-eqb i ill (λ z. omega arith))
+      go i h false q l =
+          let k = ltb-false i ill q in
+          let z : i ≡ ill = omega arith in
+          let g : stringGood t (ref i) ≡ false = not-true (stringGood t (ref i)) (rw (sym e ∙ sym z) at (first-at (λ i. not (stringGood t (ref i))) n (rw (← e, ← z) h))) in
+          rw (g, eq-eqb i ill z) (sym (and-false (ltb (ref i) m)))
 
 -- ---- index references
 -- "rows 0 gives an empty array and i may equal N", and not pass it

@@ -6,7 +6,7 @@ use lib.ListN.{length, take, drop}
 use Rattle.wire.specs.declared.Verdict.{Verdict}
 use Rattle.wire.specs.declared.Verdict.the-variants.{Accepted, Refused}
 use Rattle.psv0_layout.specs.Handed as handed
-use Rattle.psv0_layout.specs.Shown.{Value, unset, number, view, Question, stageUnion, leastLanes, mostLanes, stageNumber, usesView, maxVertexCount, patchVectorCount, meshTopology, inputElements, outputElements, patchElements, inputVectorCount, outputVectorCount, threads, entryNameOffset, resourceField, elementField, elementString, elementArray, mask, entryName, resourceCount, stringBytes, indexCount, elementCount, queried}
+use Rattle.psv0_layout.specs.Shown.{Value, unset, number, view, Question, stageUnion, leastLanes, mostLanes, stageNumber, usesView, maxVertexCount, patchVectorCount, meshTopology, inputElements, outputElements, patchElements, inputVectorCount, outputVectorCount, threads, entryNameOffset, resourceField, elementField, elementString, elementPoints, elementArray, mask, entryName, entryPoints, resourceCount, stringBytes, indexCount, elementCount, queried}
 use Rattle.psv0_layout.specs.declared.ElementAnswer.{ElementAnswer}
 use Rattle.psv0_layout.specs.declared.ElementRecord.{ElementRecord}
 use Rattle.psv0_layout.specs.declared.Field.{Field}
@@ -15,6 +15,8 @@ use Rattle.psv0_layout.specs.declared.InfoAnswer.{InfoAnswer}
 use Rattle.psv0_layout.specs.declared.LengthsAnswer.{LengthsAnswer}
 use Rattle.psv0_layout.specs.declared.ListLengths.{ListLengths}
 use Rattle.psv0_layout.specs.declared.Opening.{Opening}
+use Rattle.psv0_layout.specs.declared.Points.{Points}
+use Rattle.psv0_layout.specs.declared.Points.the-variants.{Count}
 use Rattle.psv0_layout.specs.declared.ResourceAnswer.{ResourceAnswer}
 use Rattle.psv0_layout.specs.declared.ResourceRecord.{ResourceRecord}
 use Rattle.psv0_layout.specs.declared.RuntimeInfo.{RuntimeInfo}
@@ -144,7 +146,7 @@ abbrev pub refusedLengths : ℕ → ℕ → LengthsAnswer
 refusedLengths n p = record { verdict = Refused n p; lengths = lengthsOf (λ q. unset) }
 
 abbrev pub refusedSpan : ℕ → ℕ → Span
-refusedSpan n p = record { verdict = Refused n p; start = 0; len = 0 }
+refusedSpan n p = record { verdict = Refused n p; start = 0; len = 0; points = Points.Unset }
 
 -- the question that a view asks
 abbrev pub questionOf : View → Question
@@ -153,6 +155,19 @@ questionOf (ElementString i) = elementString i
 questionOf (ElementArray i) = elementArray i
 questionOf EntryName = entryName
 questionOf (Mask m) = mask m
+
+-- the code points beside a view, a being what is shown of each question: those of a string that is set, else unset
+abbrev pub pointsIn : Value → Points
+pointsIn unset = Points.Unset
+pointsIn (number n) = Count n
+pointsIn (view l) = Points.Unset
+
+abbrev pub pointsOf : View → (Question → Value) → Points
+pointsOf StageUnion a = Points.Unset
+pointsOf (ElementString i) a = pointsIn (a (elementPoints i))
+pointsOf (ElementArray i) a = Points.Unset
+pointsOf EntryName a = pointsIn (a entryPoints)
+pointsOf (Mask m) a = Points.Unset
 
 -- the section that an enum's case names
 abbrev pub sectionOf : Section → handed.Section
@@ -163,10 +178,11 @@ sectionOf IndexTable = handed.indexTable
 sectionOf ElementRecords = handed.elementRecords
 sectionOf Masks = handed.masks
 
--- a span shows the bytes l of the data d under the verdict v: it lies inside, and a refusal has start and length 0. Where l is empty
--- the start is left free
-pub record SpanShows (d : List ℕ) (v : Verdict) (l : List ℕ) (s : Span) : Type 0 where
+-- a span shows the bytes l of the data d under the verdict v, with the code points c: it lies inside, and a refusal has start and
+-- length 0 and no code points. Where l is empty the start is left free
+pub record SpanShows (d : List ℕ) (v : Verdict) (l : List ℕ) (c : Points) (s : Span) : Type 0 where
   pub verdict : s .verdict ≡ v
   pub inside : s .start + s .len ≤ length d
   pub bytes : take (s .len) (drop (s .start) d) ≡ l
-  pub refused : (n p : ℕ) → v ≡ Refused n p → (s .start ≡ 0) × (s .len ≡ 0)
+  pub refused : (n p : ℕ) → v ≡ Refused n p → (s .start ≡ 0) × (s .len ≡ 0) × (s .points ≡ Points.Unset)
+  pub points : s .points ≡ c

@@ -8,6 +8,7 @@ use Rattle.psv0_layout.specs.Answers.{fieldOf, bytesOf, SpanShows}
 use Rattle.psv0_layout.specs.Layout.{noBody, resourceWidth}
 use Rattle.psv0_layout.specs.Shown.{Value, number, Question, resourceField, needs, setIf, ofResource, elementFields, value, queried}
 use Rattle.psv0_layout.specs.declared.Field.{Field}
+use Rattle.psv0_layout.specs.declared.Points.{Points}
 use Rattle.psv0_layout.specs.declared.Span.{Span}
 
 -- of a runtime record r, for a reading at edition read er
@@ -24,10 +25,10 @@ resourceShown er r f =
 unfoldable pub elementShown : List ℕ → ℕ → Field
 elementShown r f = fieldOf (setIf (ltb f 13) (number (getD (elementFields r) f 0)))
 
--- a stretch of accepted data
-abbrev pub acceptedSpan : ℕ → ℕ → Span
-acceptedSpan start len = record { verdict = Accepted; start = start; len = len }
+-- a stretch of accepted data, with code points where it is a string
+abbrev pub acceptedSpan : ℕ → ℕ → Points → Span
+acceptedSpan start len points = record { verdict = Accepted; start = start; len = len; points = points }
 
--- a span answers a query with the value x, where opening accepts
-abbrev pub SpanAnswers : List ℕ → Value → Span → Type 0
-SpanAnswers d x s = SpanShows d (queried Accepted x) (bytesOf x) s
+-- a span answers a query with the value x and the code points c, where opening accepts
+abbrev pub SpanAnswers : List ℕ → Value → Points → Span → Type 0
+SpanAnswers d x c s = SpanShows d (queried Accepted x) (bytesOf x) c s

@@ -4,6 +4,7 @@ use mathlib.Core.List.{List, [], _∷_}
 use Prim.Native.Nat.{ℕ, zero, suc, _+_, _*_, _/_}
 use lib.Dec.{ltb, leb}
 use lib.ListN.{length, take, drop}
+use Rattle.utf8_layout.specs.Sequence.{wellFormed}
 
 -- a zero byte stands in the list
 unfoldable pub hasZero : List ℕ → Bool
@@ -17,13 +18,18 @@ untilZero [] = []
 untilZero (zero ∷ l) = []
 untilZero (suc x ∷ l) = suc x ∷ untilZero l
 
--- "A string reference o is good when o < T and a zero byte stands at o or later inside the table"; t is the string table
-unfoldable pub stringGood : List ℕ → ℕ → Bool
-stringGood t o = ltb o (length t) && hasZero (drop o t)
+-- "o < T and a zero byte stands at o or later inside the table"; t is the string table
+unfoldable pub stringEnds : List ℕ → ℕ → Bool
+stringEnds t o = ltb o (length t) && hasZero (drop o t)
 
 -- "the string ends before the first such zero"
 unfoldable pub stringAt : List ℕ → ℕ → List ℕ
 stringAt t o = untilZero (drop o t)
+
+-- "A string reference o is good when" the string at o ends inside the table; document 02, Ask 7: "now .. only when the bytes before its zero are well
+-- formed". No other bytes of the table are judged
+unfoldable pub stringGood : List ℕ → ℕ → Bool
+stringGood t o = stringEnds t o && wellFormed (stringAt t o)
 
 -- N, how many numbers the index table x has
 abbrev pub indexTotal : List ℕ → ℕ

@@ -4,6 +4,7 @@ use mathlib.Core.List.{List, [], _∷_}
 use Prim.Native.Nat.{ℕ, _+_, _*_, _/_, _%_}
 use lib.Dec.{leb, ltb, eqb}
 use lib.ListN.{length, getD, take, drop}
+use Rattle.utf8_layout.specs.Sequence.{codePoints}
 use Rattle.wire.specs.Choice.{choose}
 use Rattle.wire.specs.Number.{u16At, u32At}
 use Rattle.wire.specs.Verdict.{_then_, check}
@@ -21,7 +22,8 @@ pub data Value : Type 0 where
   view : List ℕ → Value
 
 -- what can be asked of a reading: "every field of the runtime record and of each resource and element record, each element's string
--- and index array, the entry name, masks 0 to 10, and the lists' lengths"
+-- and index array, the entry name, masks 0 to 10, and the lists' lengths"; document 02, Ask 7: of a string "also .. how many code points there
+-- are"
 pub data Question : Type 0 where
   stageUnion leastLanes mostLanes : Question
   stageNumber usesView maxVertexCount patchVectorCount meshTopology : Question
@@ -30,7 +32,8 @@ pub data Question : Type 0 where
   entryNameOffset : Question
   resourceField elementField : ℕ → ℕ → Question
   elementString elementArray mask : ℕ → Question
-  entryName : Question
+  elementPoints : ℕ → Question
+  entryName entryPoints : Question
   resourceCount stringBytes indexCount elementCount : Question
 
 -- the edition from which on it is set
@@ -53,9 +56,11 @@ needs entryNameOffset = 3
 needs (resourceField i f) = choose (ltb f 4) 0 2
 needs (elementField i f) = 1
 needs (elementString i) = 1
+needs (elementPoints i) = 1
 needs (elementArray i) = 1
 needs (mask m) = 1
 needs entryName = 3
+needs entryPoints = 3
 needs resourceCount = 0
 needs stringBytes = 1
 needs indexCount = 1
@@ -116,10 +121,12 @@ value entryNameOffset v = number (u32At (v .runtime) 48)
 value (resourceField i f) v = ofResource (v .resources) i f
 value (elementField i f) v = ofElement (v .body) i (setIf (ltb f 13) (number (getD (elementFields (getD (v .body .elements) i [])) f 0)))
 value (elementString i) v = ofElement (v .body) i (view (stringAt (v .body .strings) (nameOffset (getD (v .body .elements) i []))))
+value (elementPoints i) v = ofElement (v .body) i (number (codePoints (stringAt (v .body .strings) (nameOffset (getD (v .body .elements) i [])))))
 value (elementArray i) v =
     ofElement (v .body) i (view (arrayAt (v .body .indices) (indexReference (getD (v .body .elements) i [])) (rowCount (getD (v .body .elements) i []))))
 value (mask m) v = setIf (ltb m 11) (view (maskAt (v .runtime) (v .body .masks) m))
 value entryName v = view (stringAt (v .body .strings) (u32At (v .runtime) 48))
+value entryPoints v = number (codePoints (stringAt (v .body .strings) (u32At (v .runtime) 48)))
 value resourceCount v = number (length (v .resources))
 value stringBytes v = number (length (v .body .strings))
 value indexCount v = number (indexTotal (v .body .indices))

@@ -112,9 +112,16 @@ pub enum Section {
     Masks,
 }
 
-// A verdict, and a stretch of the data: where it starts and its length.
+// The code points of a string, or that there is no string.
+pub enum Points {
+    Count(usize),
+    Unset,
+}
+
+// A verdict, a stretch of the data: where it starts and its length, and the code points where it is a string.
 pub struct Span {
     pub verdict: Verdict,
     pub start: usize,
     pub len: usize,
+    pub points: Points,
 }

@@ -6,7 +6,7 @@ use mathlib.Core.Bool.{Bool, true, false}
 use mathlib.Core.List.{List}
 use native.Mathlib.Omega.{arith}
 use native.Mathlib.Nat.{le-trans}
-use lib.Dec.{leb, ltb}
+use lib.Dec.{leb}
 use lib.ListN.{length, take, drop}
 use borrow.Author.Tests.{le-leb, lt-leb, leb-true}
 use Rattle.constants.specs.Edition.{sizeOf, fileEdition}
@@ -18,11 +18,10 @@ use Rattle.wire.specs.declared.Verdict.the-variants.{Accepted, Refused}
 use Rattle.psv0_layout.specs.Field.{elementTotal, maskBytes}
 use Rattle.psv0_layout.specs.Judged.{headJudged, fieldsJudged, bodyFits, elementsJudged, entryJudged, judgedAt, opened}
 use Rattle.psv0_layout.specs.Layout.{rows, guideOf, after2, sections, seen, bodyOf, editionRead}
-use Rattle.psv0_layout.specs.Position.{UpToLastZero, Judging, stringsStart}
-use Rattle.psv0_layout.specs.Reference.{stringGood}
+use Rattle.psv0_layout.specs.Position.{stringsStart}
+use Rattle.psv0_layout.specs.Reference.{stringGood, indexTotal}
 use Rattle.psv0_layout.proofs.Opened.{head-fits, head-accepted, body-accepted}
 use Rattle.psv0_layout.proofs.Positions.{runtime-at, runtime-u32, guide-seen}
-use Rattle.psv0_layout.proofs.References.{string-good}
 use Rattle.psv0_layout.proofs.Spans.{stretch-length}
 use Rattle.psv0_sections.specs.Places.{noPlaces, headPlaces, bodyPlaces, placesOf, locatedOf, stretch, BodyPlaced, Placed}
 use Rattle.psv0_sections.specs.Steps.{headIf, headOf, restIf, restOf, found, HeadRead, BodyAsked}
@@ -37,31 +36,33 @@ use Rattle.psv0_sections.proofs.Placing.{head-placed, body-placed}
 part : (d : List ℕ) (a n : ℕ) → take (a + n - a) (drop a d) ≡ stretch d a n
 part d a n = let e : a + n - a ≡ n = omega arith in rw e
 
-module _ (d : List ℕ) (p : Places) (b : BodyPlaced d p) (m : ℕ)
-    (u : UpToLastZero (take (p .strings + p .«string_bytes» - p .strings) (drop (p .strings) d)) m) where
-  strings-end : UpToLastZero (sections d .strings) m
-  strings-end = rw (part d (p .strings) (p .«string_bytes»), b .strings) at u
+module _ (d : List ℕ) (p : Places) (b : BodyPlaced d p) where
+  strings-are : take (p .strings + p .«string_bytes» - p .strings) (drop (p .strings) d) ≡ sections d .strings
+  strings-are = part d (p .strings) (p .«string_bytes») ∙ b .strings
 
-  pub judging : Judging (seen 1 (sections d) .body) m (p .«index_count»)
-      (rows 16 (p .«element_count») (p .«element_size»)
-      (take (p .elements + p .«element_count» * p .«element_size» - p .elements) (drop (p .elements) d)))
+  pub strings-read : seen 1 (sections d) .body .strings ≡ take (p .strings + p .«string_bytes» - p .strings) (drop (p .strings) d)
   unfolding seen bodyOf
-  judging =
-      record {
-        strings = strings-end;
-        indices = let long = stretch-length d (sections d .indices) (p .indices) (p .«index_count» * 4) (b .indices) (b .indicesFit) in omega arith;
-        elements = rw (part d (p .elements) (p .«element_count» * p .«element_size»), b .elements, b .count, b .stride);
-      }
+  strings-read = sym strings-are
 
-  pub entry-judged : (er : ℕ) → (3 ≤ er → 52 ≤ u32At d 0)
-      → from 3 er (check (ltb (u32At d 52) m) 24 0) ≡ from 3 er (entryJudged (seen 3 (sections d)))
+  pub indices-read : indexTotal (seen 1 (sections d) .body .indices) ≡ p .«index_count»
+  unfolding seen bodyOf
+  indices-read = let long = stretch-length d (sections d .indices) (p .indices) (p .«index_count» * 4) (b .indices) (b .indicesFit) in omega arith
+
+  pub elements-read : seen 1 (sections d) .body .elements
+      ≡ rows 16 (p .«element_count») (p .«element_size») (take (p .elements + p .«element_count» * p .«element_size» - p .elements) (drop (p .elements) d))
+  unfolding seen bodyOf
+  elements-read = rw (part d (p .elements) (p .«element_count» * p .«element_size»), b .elements, b .count, b .stride)
+
+  pub entry-read : (er : ℕ) → (3 ≤ er → 52 ≤ u32At d 0)
+      → from 3 er (check (stringGood (take (p .strings + p .«string_bytes» - p .strings) (drop (p .strings) d)) (u32At d 52)) 24 0)
+      ≡ from 3 er (entryJudged (seen 3 (sections d)))
   unfolding from when entryJudged
-  entry-judged er long = go (leb 3 er) (leb-true 3 er)
+  entry-read er long = go (leb 3 er) (leb-true 3 er)
     where
       go : (t : Bool) → (t ≡ true → 3 ≤ er)
-          → when t (check (ltb (u32At d 52) m) 24 0)
+          → when t (check (stringGood (take (p .strings + p .«string_bytes» - p .strings) (drop (p .strings) d)) (u32At d 52)) 24 0)
           ≡ when t (check (stringGood (seen 3 (sections d) .body .strings) (u32At (seen 3 (sections d) .runtime) 48)) 24 0)
-      go true h = rw (runtime-u32 d 3 (long (h refl)) 48 (omega arith)) (unfold seen bodyOf in rw (string-good (sections d .strings) m (u32At d 52) strings-end))
+      go true h = rw (runtime-u32 d 3 (long (h refl)) 48 (omega arith)) (unfold seen bodyOf in rw strings-are)
       go false h = refl
 
 -- ---- a refusal

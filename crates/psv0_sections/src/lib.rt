@@ -1,7 +1,8 @@
 // The walk over PSV0 data: the verdict of a reading, and where each section lies.
 use wire::Verdict;
 ghost use mathlib.Core.Path.{_≡_};
-ghost use Prim.Native.Nat.{_+_, _*_, _≤_, _<_, min};
+ghost use mathlib.Core.Bool.{_&&_, not};
+ghost use Prim.Native.Nat.{ℕ, _+_, _*_, _≤_, _<_, min};
 ghost use lib.Dec.{ltb, eqb};
 ghost use lib.ListN.{length, getD, take};
 ghost use Rattle.wire.specs.Number.{u32At};
@@ -9,7 +10,8 @@ ghost use Rattle.wire.specs.Verdict.{_then_, check, from};
 ghost use Rattle.psv0_layout.specs.Field.{words, wordsIf, elementTotal, maskWords, sum, maskBytes};
 ghost use Rattle.psv0_layout.specs.Judged.{fieldsJudged, elementsJudged, entryJudged, judgedAt};
 ghost use Rattle.psv0_layout.specs.Layout.{Body, rows, sections, seen};
-ghost use Rattle.psv0_layout.specs.Position.{nextCounted, Judging};
+ghost use Rattle.psv0_layout.specs.Position.{nextCounted, UpToLastZero, Decided, referenceAt, referenceTotal, Judging};
+ghost use Rattle.psv0_layout.specs.Reference.{stringGood, indexTotal};
 ghost use Rattle.psv0_layout.specs.Given.{sectionsJudged};
 ghost use Rattle.psv0_sections.specs.Places.{headOnly, noPlaces, placesOf, locatedOf, BodyPlaced};
 ghost use Rattle.psv0_sections.specs.Steps.{stepTo, smallStep, tableAt, headOf, restOf, found, RuntimeRead, HeadRead, BodyAsked};
@@ -312,17 +314,11 @@ pub fn mask_words(r: &[u8], m: usize) -> usize
     0
 }
 
-fn lesser(a: usize, b: usize) -> usize
-    ensures { λ r. ⌜ r ≡ min a b ⌝ }
-{
-    if a < b { a } else { b }
-}
-
 // The words of the masks before mask m.
 pub fn words_before(r: &[u8], m: usize) -> usize
     ensures { λ n. ⌜ n ≡ sum (take m (maskWords (now (r .entry)))) ⌝ }
 {
-    let end = lesser(m, 11);
+    let end = wire::lesser(m, 11);
     let mut total = 0;
     let mut i = 0;
     while i < end {
@@ -384,10 +380,18 @@ fn read_body(d: &[u8], edition: usize, head: Places, c: Cursor, count: usize, by
 }
 
 // ---- references
-// 22 and 23, element by element. Of the index table its count of numbers decides.
-fn judge_elements(end: usize, indices: usize, e: &[u8], stride: usize, count: usize) -> Verdict
+// 22 and 23, element by element. Where the last string ends and the first name that isn't good, numbered ill, decide the names; of the index table
+// its count of numbers decides.
+fn judge_elements(
+    end: usize,
+    ill: usize,
+    indices: usize,
+    e: &[u8],
+    stride: usize,
+    count: usize,
+) -> Verdict
     requires { ⌜ (count * stride ≤ length (now e)) × (1 ≤ count → 16 ≤ stride) ⌝ }
-    ensures { λ r. ⌜ ((b : Body) → Judging b end indices (rows 16 count stride (now (e .entry))) → r ≡ elementsJudged b) ⌝ }
+    ensures { λ r. ⌜ ((b : Body) → Judging b end ill indices (rows 16 count stride (now (e .entry))) → r ≡ elementsJudged b) ⌝ }
 {
     let mut i = 0;
     let mut at = 0;
@@ -395,6 +399,9 @@ fn judge_elements(end: usize, indices: usize, e: &[u8], stride: usize, count: us
         let known = at + 16;
         let r = &e[at..known];
         if end <= wire::u32_at(r, 0) as usize {
+            return Verdict::Refused(22, i);
+        }
+        if i == ill {
             return Verdict::Refused(22, i);
         }
         if indices < wire::u32_at(r, 4) as usize + wire::byte_at(r, 8) as usize {
@@ -406,20 +413,69 @@ fn judge_elements(end: usize, indices: usize, e: &[u8], stride: usize, count: us
     Verdict::Accepted
 }
 
-// 24. The entry name's reference stands at a place, 48 bytes into the runtime record.
-fn judge_entry(d: &[u8], at: usize, edition: usize, end: usize) -> Verdict
-    ensures { λ r. ⌜ r ≡ from 3 edition (check (ltb (u32At (now (d .entry)) at) end) 24 0) ⌝ }
+// 24, decided the same way: the entry name's reference comes after those of all elements.
+fn judge_entry(edition: usize, entry: usize, end: usize, ill: usize, count: usize) -> Verdict
+    ensures { λ r. ⌜ r ≡ from 3 edition (check (ltb entry end && not (eqb count ill)) 24 0) ⌝ }
 {
     if edition < 3 {
         return Verdict::Accepted;
     }
-    if end <= wire::u32_at(d, at) as usize {
+    if end <= entry {
+        return Verdict::Refused(24, 0);
+    }
+    if count == ill {
         return Verdict::Refused(24, 0);
     }
     Verdict::Accepted
 }
 
-// 22 to 24. The string table is searched once.
+// How many string references the elements and, from edition 3 on, the entry name have.
+fn reference_total(edition: usize, count: usize) -> usize
+    requires { ⌜ count < 18446744073709551615 ⌝ }
+    ensures { λ r. ⌜ r ≡ referenceTotal edition count ⌝ }
+{
+    if edition < 3 {
+        return count;
+    }
+    count + 1
+}
+
+// The number of the first of n references that isn't good. Where every byte is below 0x80, as in nearly every table, the end of the last string
+// decides alone. The search gets a slice of its own: so that this one need not stand in memory for it.
+fn first_ill(t: &[u8], e: &[u8], stride: usize, count: usize, entry: usize, n: usize) -> usize
+    ensures { λ r. ⌜ ((m : ℕ) → UpToLastZero (now (t .entry)) m → Decided (now (t .entry)) (referenceAt (now (e .entry)) stride count entry) n m r) ⌝ }
+{
+    if utf8::plain_from(t, 0) {
+        return n;
+    }
+    let len = t.len();
+    utf8::first_ill(&t[0..len], 0, false, e, stride, count, entry, n)
+}
+
+// 22 to 24, at an edition read of 1 or more, by the string table t, the count of the index table's numbers, the elements' records in e and the
+// entry name's reference. The string table is read once.
+fn judge_tables(
+    t: &[u8],
+    indices: usize,
+    e: &[u8],
+    stride: usize,
+    count: usize,
+    entry: usize,
+    edition: usize,
+) -> Verdict
+    requires { ⌜ (count * stride ≤ length (now e)) × (1 ≤ count → 16 ≤ stride) ⌝ }
+    ensures { λ r. ⌜ ((b : Body) → b .strings ≡ now (t .entry) → indexTotal (b .indices) ≡ indices → b .elements ≡ rows 16 count stride (now (e .entry)) → r ≡ (elementsJudged b then from 3 edition (check (stringGood (now (t .entry)) entry) 24 0))) ⌝ }
+{
+    let end = strings::end_of(t);
+    let n = reference_total(edition, count);
+    let ill = first_ill(t, e, stride, count, entry, n);
+    match judge_elements(end, ill, indices, e, stride, count) {
+        Verdict::Refused(n, q) => Verdict::Refused(n, q),
+        Verdict::Accepted => judge_entry(edition, entry, end, ill, count),
+    }
+}
+
+// 22 to 24 of PSV0 data. The entry name's reference stands 48 bytes into the runtime record.
 fn judge_references(d: &[u8], p: Places) -> Verdict
     requires { ⌜ (BodyPlaced (now d) p) × (3 ≤ p .edition → 52 ≤ u32At (now d) 0) ⌝ }
     ensures { λ r. ⌜ r ≡ (elementsJudged (seen 1 (sections (now (d .entry))) .body) then from 3 (p .edition) (entryJudged (seen 3 (sections (now (d .entry)))))) ⌝ }
@@ -430,21 +486,19 @@ fn judge_references(d: &[u8], p: Places) -> Verdict
     let count = p.element_count;
     let stride = p.element_size;
     let elements_end = elements + count * stride;
-    let end = strings::end_of(&d[strings..strings_end]);
-    match judge_elements(
-        end,
+    judge_tables(
+        &d[strings..strings_end],
         p.index_count,
         &d[elements..elements_end],
         stride,
         count,
-    ) {
-        Verdict::Refused(n, q) => Verdict::Refused(n, q),
-        Verdict::Accepted => judge_entry(d, 52, p.edition, end),
-    }
+        wire::u32_at(d, 52) as usize,
+        p.edition,
+    )
 }
 
 // 15 to 17 and 22 to 24 of sections that are given one by one, for an edition read: the runtime record r, the strings t, the indices x
-// and the elements e, 16 bytes each. The string table is searched once.
+// and the elements e, 16 bytes each.
 pub fn judge_given(edition: usize, r: &[u8], t: &[u8], x: &[u8], e: &[u8]) -> Verdict
     ensures { λ v. ⌜ v ≡ sectionsJudged edition (now (r .entry)) (now (t .entry)) (now (x .entry)) (now (e .entry)) ⌝ }
 {
@@ -453,13 +507,15 @@ pub fn judge_given(edition: usize, r: &[u8], t: &[u8], x: &[u8], e: &[u8]) -> Ve
     }
     match judge_fields(r) {
         Verdict::Refused(n, q) => Verdict::Refused(n, q),
-        Verdict::Accepted => {
-            let end = strings::end_of(t);
-            match judge_elements(end, x.len() / 4, e, 16, e.len() / 16) {
-                Verdict::Refused(n, q) => Verdict::Refused(n, q),
-                Verdict::Accepted => judge_entry(r, 48, edition, end),
-            }
-        }
+        Verdict::Accepted => judge_tables(
+            t,
+            x.len() / 4,
+            e,
+            16,
+            e.len() / 16,
+            wire::u32_at(r, 48) as usize,
+            edition,
+        ),
     }
 }
 
@@ -515,7 +571,7 @@ pub fn locate(d: &[u8], edition: usize) -> Located
     match read_head(d) {
         Head::Refused(n, q) => refused(n, q),
         Head::Read(places, next) => {
-            let read = lesser(edition, constants::edition_of(places.size));
+            let read = wire::lesser(edition, constants::edition_of(places.size));
             if read == 0 {
                 return Located {
                     verdict: Verdict::Accepted,

@@ -14,6 +14,7 @@ use Rattle.container.proofs.Queries.{opening-verdict}
 use Rattle.container.specs.declared.ContainerOpening.{ContainerOpening}
 use Rattle.container_layout.specs.Container.{containerJudged}
 use Rattle.psv0_layout.specs.Answers.{bytesOf, bytesBeside, sectionOf, SpanShows}
+use Rattle.psv0_layout.specs.declared.Points.{Points}
 use Rattle.psv0_layout.specs.declared.Span.{Span}
 use Rattle.psv0_layout.specs.Handed.{handed}
 use Rattle.psv0_layout.specs.Shown.{Value, queried}
@@ -23,25 +24,33 @@ use Rattle.signature_report_layout.specs.Reported.{signatureReportOf, elementRe
 use Rattle.signature_report_layout.specs.declared.DifferenceReport.{DifferenceReport}
 use Rattle.signature_report_layout.specs.declared.SignaturePart.{SignaturePart}
 use Rattle.signature_report_layout.specs.declared.SignatureReport.{SignatureReport}
-use Rattle.qollqamir.specs.Boundary.{cVerdict, cSpan, cSignatureReport, cDifference, partNumbered, noPart, reportNumbered, elementNumbered, differenceNumbered, CShows, sectionNumbered, sectionVerdict, sectionShown}
+use Rattle.qollqamir.specs.Boundary.{cVerdict, isString, pointsNumber, cSpan, cSignatureReport, cDifference, partNumbered, noPart, reportNumbered, elementNumbered, differenceNumbered, CShows, sectionNumbered, sectionVerdict, sectionShown}
 use Rattle.qollqamir.specs.declared.CDifference.{CDifference}
 use Rattle.qollqamir.specs.declared.CSignatureReport.{CSignatureReport}
 use Rattle.qollqamir.specs.declared.CSpan.{CSpan}
 use Rattle.qollqamir.specs.declared.CVerdict.{CVerdict}
 
-pub crossed : {d : List ℕ} {v : Verdict} {l : List ℕ} {s : Span} {r : CSpan} → SpanShows d v l s → r ≡ cSpan s → CShows d v l r
+pub crossed : {d : List ℕ} {v : Verdict} {l : List ℕ} {c : Points} {s : Span} {r : CSpan} → SpanShows d v l c s → r ≡ cSpan s → CShows d v l c r
 unfolding cSpan
 crossed h e =
-    rw e (record { verdict = ap cVerdict (h .verdict); inside = h .inside; bytes = h .bytes; refused = h .refused })
+    rw e
+    (record {
+      verdict = ap cVerdict (h .verdict);
+      inside = h .inside;
+      bytes = h .bytes;
+      refused = λ n p q. let z = h .refused n p q in (z .0, z .1, ap isString (z .2), ap pointsNumber (z .2));
+      string = ap isString (h .points);
+      points = ap pointsNumber (h .points);
+    })
 
 module _ (d : List ℕ) (o : Verdict) (er : ℕ) (a : List ℕ) (x : Value) {n : ℕ} {s : Span} {r : CSpan} where
-  pub no-section : 5 < n → SpanShows d (queried o x) (bytesOf x) s → r ≡ cSpan s
-      → CShows d (sectionVerdict n o x) (sectionShown n o er a x) r
+  pub no-section : 5 < n → SpanShows d (queried o x) (bytesOf x) Points.Unset s → r ≡ cSpan s
+      → CShows d (sectionVerdict n o x) (sectionShown n o er a x) Points.Unset r
   unfolding sectionVerdict sectionShown
   no-section h g e = rw (le-ltb n 6 h) (crossed g e)
 
-  pub some-section : n ≤ 5 → SpanShows d o (bytesBeside o (handed er a (sectionOf (sectionNumbered n)))) s → r ≡ cSpan s
-      → CShows d (sectionVerdict n o x) (sectionShown n o er a x) r
+  pub some-section : n ≤ 5 → SpanShows d o (bytesBeside o (handed er a (sectionOf (sectionNumbered n)))) Points.Unset s → r ≡ cSpan s
+      → CShows d (sectionVerdict n o x) (sectionShown n o er a x) Points.Unset r
   unfolding sectionVerdict sectionShown
   some-section h g e = rw (lt-ltb n 6 (omega arith)) (crossed g e)
 

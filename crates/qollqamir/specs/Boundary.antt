@@ -29,6 +29,8 @@ use Rattle.psv0_layout.specs.declared.Opening.{Opening}
 use Rattle.psv0_layout.specs.declared.ResourceAnswer.{ResourceAnswer}
 use Rattle.psv0_layout.specs.declared.Section.{Section}
 use Rattle.psv0_layout.specs.declared.Section.the-variants.{RuntimeRecord, ResourceRecords, StringTable, IndexTable, ElementRecords, Masks}
+use Rattle.psv0_layout.specs.declared.Points.{Points}
+use Rattle.psv0_layout.specs.declared.Points.the-variants.{Count}
 use Rattle.psv0_layout.specs.declared.Span.{Span}
 use Rattle.psv0_layout.specs.declared.View.{View}
 use Rattle.psv0_layout.specs.declared.View.the-variants.{StageUnion, ElementString, ElementArray, EntryName, Mask}
@@ -167,8 +169,24 @@ cLengths a =
       elements = cField (a .lengths .elements);
     }
 
+-- the code points of a string as two numbers: 1 and how many, zeros where there is no string
+abbrev pub isString : Points → ℕ
+isString (Count n) = 1
+isString Points.Unset = 0
+
+abbrev pub pointsNumber : Points → ℕ
+pointsNumber (Count n) = n
+pointsNumber Points.Unset = 0
+
 unfoldable pub cSpan : Span → CSpan
-cSpan s = record { verdict = cVerdict (s .verdict); start = s .start; len = s .len }
+cSpan s =
+    record {
+      verdict = cVerdict (s .verdict);
+      start = s .start;
+      len = s .len;
+      «is_string» = isString (s .points);
+      points = pointsNumber (s .points);
+    }
 
 unfoldable pub cWritten : Written → CWritten
 cWritten w = record { verdict = cVerdict (w .verdict); len = w .len }
@@ -218,8 +236,8 @@ cSignatureReport a = record { verdict = cVerdict (a .verdict); count = a .count;
 
 -- 1, where the name starts and its length; zeros where there is none
 abbrev pub nameParts : Name → NameParts
-nameParts (NameAt s n) = record { named = 1; start = s; len = n }
-nameParts NoName = record { named = 0; start = 0; len = 0 }
+nameParts (NameAt s n c) = record { named = 1; start = s; len = n; points = c }
+nameParts NoName = record { named = 0; start = 0; len = 0; points = 0 }
 
 unfoldable pub cSignatureElement : SignatureAnswer → CSignatureElement
 cSignatureElement a =
@@ -237,6 +255,7 @@ cSignatureElement a =
       named = nameParts (a .name) .named;
       «name_start» = nameParts (a .name) .start;
       «name_len» = nameParts (a .name) .len;
+      «name_points» = nameParts (a .name) .points;
     }
 
 -- 1 and the number of what was found, zeros where there is nothing
@@ -361,13 +380,15 @@ unfoldable pub differenceNumbered : ℕ → ℕ → List ℕ → CDifference
 differenceNumbered n k b =
     choose (ltb n 3) (cDifference (differenceOf (partNumbered n) k b)) (differenceIf (cVerdict (noPart (containerJudged k b) .verdict)) Nothing)
 
--- a span shows the bytes l of d under the verdict v: it lies inside, and a refusal has start and length 0. Where l is empty the start is
--- left free
-pub record CShows (d : List ℕ) (v : Verdict) (l : List ℕ) (s : CSpan) : Type 0 where
+-- a span shows the bytes l of d under the verdict v, with the code points c: it lies inside, and a refusal has zeros. Where l is empty the start
+-- is left free
+pub record CShows (d : List ℕ) (v : Verdict) (l : List ℕ) (c : Points) (s : CSpan) : Type 0 where
   pub verdict : s .verdict ≡ cVerdict v
   pub inside : s .start + s .len ≤ length d
   pub bytes : take (s .len) (drop (s .start) d) ≡ l
-  pub refused : (n p : ℕ) → v ≡ Refused n p → (s .start ≡ 0) × (s .len ≡ 0)
+  pub refused : (n p : ℕ) → v ≡ Refused n p → (s .start ≡ 0) × (s .len ≡ 0) × (s .«is_string» ≡ 0) × (s .points ≡ 0)
+  pub string : s .«is_string» ≡ isString c
+  pub points : s .points ≡ pointsNumber c
 
 -- the view that a kind and a number name: 0 the stage union, 1 an element's string, 2 an element's index array, 3 the entry name, 4 a
 -- mask; any other kind is a mask that isn't there

@@ -15,6 +15,7 @@ use psv0_layout::Field;
 use psv0_layout::InfoAnswer;
 use psv0_layout::LengthsAnswer;
 use psv0_layout::Opening;
+use psv0_layout::Points;
 use psv0_layout::ResourceAnswer;
 use psv0_layout::Section;
 use psv0_layout::Span;
@@ -43,7 +44,7 @@ ghost use Rattle.dxil_layout.specs.Program.{programOf};
 ghost use Rattle.dxil_report_layout.specs.Reported.{programReportOf};
 ghost use Rattle.part_table_layout.specs.Lookup.{partOf};
 ghost use Rattle.part_table_layout.specs.Table.{tableOf};
-ghost use Rattle.psv0_layout.specs.Answers.{openingOf, infoAnswerOf, resourceAnswerOf, elementAnswerOf, lengthsAnswerOf, refusedInfo, refusedResource, refusedElement, questionOf, bytesOf, bytesBeside};
+ghost use Rattle.psv0_layout.specs.Answers.{openingOf, infoAnswerOf, resourceAnswerOf, elementAnswerOf, lengthsAnswerOf, refusedInfo, refusedResource, refusedElement, questionOf, pointsOf, bytesOf, bytesBeside};
 ghost use Rattle.psv0_layout.specs.Judged.{opened};
 ghost use Rattle.psv0_layout.specs.Layout.{editionRead, defaultEdition};
 ghost use Rattle.psv0_layout.specs.Shown.{answered, queried};
@@ -52,7 +53,7 @@ ghost use Rattle.root_signature_layout.specs.Root.{rootOf, itemOf, itemAloneOf,
 ghost use Rattle.root_signature_report_layout.specs.Reported.{rootReportOf, itemReportOf, rangeReportOf};
 ghost use Rattle.signature_layout.specs.Signature.{signatureOf, elementOf, aloneOf, viewOf as nameView};
 ghost use Rattle.wire.specs.Number.{u32At};
-ghost use Rattle.qollqamir.specs.Boundary.{cVerdict, cField, cTable, cPart, cOpening, cPsvOpening, cInfo, cResource, cElement, cLengths, cSpan, cWritten, cAssembly, stagesNumber, cHeader, cProgram, cReport, cSignature, cSignatureReport, nameParts, cSignatureElement, cDifference, partNumbered, noPart, reportNumbered, elementNumbered, differenceNumbered, cRoot, cRootReport, parameterFields, cItem, cRange, viewOf, sectionNumbered, sectionVerdict, sectionShown, CShows};
+ghost use Rattle.qollqamir.specs.Boundary.{cVerdict, cField, cTable, cPart, cOpening, cPsvOpening, cInfo, cResource, cElement, cLengths, isString, pointsNumber, cSpan, cWritten, cAssembly, stagesNumber, cHeader, cProgram, cReport, cSignature, cSignatureReport, nameParts, cSignatureElement, cDifference, partNumbered, noPart, reportNumbered, elementNumbered, differenceNumbered, cRoot, cRootReport, parameterFields, cItem, cRange, viewOf, sectionNumbered, sectionVerdict, sectionShown, CShows};
 
 // A verdict: the refusal's number, 0 where the call accepts, and its place.
 #[repr(C)]
@@ -164,12 +165,14 @@ pub struct CLengths {
     pub elements: CField,
 }
 
-// A stretch of the caller's bytes.
+// A stretch of the caller's bytes. Where it is a string, 1 and its code points; else zeros.
 #[repr(C)]
 pub struct CSpan {
     pub verdict: CVerdict,
     pub start: usize,
     pub len: usize,
+    pub is_string: usize,
+    pub points: usize,
 }
 
 // What a writer did: the length of its result.
@@ -228,7 +231,7 @@ pub struct CSignatureReport {
     pub len: usize,
 }
 
-// A signature element, and its name: 1 where it has one, 0 where it has none, where it starts and its length.
+// A signature element, and its name: 1 where it has one, 0 where it has none, where it starts, its length and its code points.
 #[repr(C)]
 pub struct CSignatureElement {
     pub verdict: CVerdict,
@@ -244,6 +247,7 @@ pub struct CSignatureElement {
     pub named: u32,
     pub name_start: usize,
     pub name_len: usize,
+    pub name_points: usize,
 }
 
 // The first element that differs: 1 and its number, 0 and 0 where there is none.
@@ -586,14 +590,35 @@ fn c_psv_opening(o: Opening) -> COpening
     }
 }
 
+fn is_string(points: Points) -> usize
+    ensures { λ r. ⌜ r ≡ isString points ⌝ }
+{
+    match points {
+        Points::Count(_) => 1,
+        Points::Unset => 0,
+    }
+}
+
+fn points_number(points: Points) -> usize
+    ensures { λ r. ⌜ r ≡ pointsNumber points ⌝ }
+{
+    match points {
+        Points::Count(n) => n,
+        Points::Unset => 0,
+    }
+}
+
 fn c_span(s: Span) -> CSpan
     ensures { λ r. ⌜ r ≡ cSpan s ⌝ }
 {
     let v = s.verdict;
+    let points = s.points;
     CSpan {
         verdict: c_verdict(v),
         start: s.start,
         len: s.len,
+        is_string: is_string(points),
+        points: points_number(points),
     }
 }
 
@@ -695,26 +720,29 @@ fn c_signature_report(a: SignatureReport) -> CSignatureReport
     }
 }
 
-// A name as three numbers: whether there is one, where it starts and its length.
+// A name as four numbers: whether there is one, where it starts, its length and its code points.
 struct NameParts {
     named: u32,
     start: usize,
     len: usize,
+    points: usize,
 }
 
 fn name_parts(name: Name) -> NameParts
     ensures { λ r. ⌜ r ≡ nameParts name ⌝ }
 {
     match name {
-        Name::At(start, len) => NameParts {
+        Name::At(start, len, points) => NameParts {
             named: 1,
             start,
             len,
+            points,
         },
         Name::Unset => NameParts {
             named: 0,
             start: 0,
             len: 0,
+            points: 0,
         },
     }
 }
@@ -740,6 +768,7 @@ fn c_signature_element(a: SignatureAnswer) -> CSignatureElement
         named: n.named,
         name_start: n.start,
         name_len: n.len,
+        name_points: n.points,
     }
 }
 
@@ -1098,7 +1127,7 @@ pub extern "C" fn qollqamir_lengths(b: &[u8], edition: usize) -> CLengths
 // A view by its kind and number.
 #[no_mangle]
 pub extern "C" fn qollqamir_view(b: &[u8], edition: usize, kind: u32, number: usize) -> CSpan
-    ensures { λ r. ⌜ CShows (now (b .entry)) (queried (containerJudged edition (now (b .entry))) (containerAnswered edition (now (b .entry)) (questionOf (viewOf kind number)))) (bytesOf (containerAnswered edition (now (b .entry)) (questionOf (viewOf kind number)))) r ⌝ }
+    ensures { λ r. ⌜ CShows (now (b .entry)) (queried (containerJudged edition (now (b .entry))) (containerAnswered edition (now (b .entry)) (questionOf (viewOf kind number)))) (bytesOf (containerAnswered edition (now (b .entry)) (questionOf (viewOf kind number)))) (pointsOf (viewOf kind number) (containerAnswered edition (now (b .entry)))) r ⌝ }
 {
     c_span(container::view_span(b, edition, view_of(kind, number)))
 }
@@ -1107,7 +1136,7 @@ pub extern "C" fn qollqamir_view(b: &[u8], edition: usize, kind: u32, number: us
 // is one that isn't there.
 #[no_mangle]
 pub extern "C" fn qollqamir_section(b: &[u8], edition: usize, section: u32) -> CSpan
-    ensures { λ r. ⌜ CShows (now (b .entry)) (sectionVerdict section (containerJudged edition (now (b .entry))) (containerAnswered edition (now (b .entry)) (questionOf (viewOf 5 0)))) (sectionShown section (containerJudged edition (now (b .entry))) (editionRead edition (psvOf (now (b .entry)))) (psvOf (now (b .entry))) (containerAnswered edition (now (b .entry)) (questionOf (viewOf 5 0)))) r ⌝ }
+    ensures { λ r. ⌜ CShows (now (b .entry)) (sectionVerdict section (containerJudged edition (now (b .entry))) (containerAnswered edition (now (b .entry)) (questionOf (viewOf 5 0)))) (sectionShown section (containerJudged edition (now (b .entry))) (editionRead edition (psvOf (now (b .entry)))) (psvOf (now (b .entry))) (containerAnswered edition (now (b .entry)) (questionOf (viewOf 5 0)))) Points.Unset r ⌝ }
 {
     if 5 < section {
         return c_span(container::view_span(b, edition, View::Mask(11)));
@@ -1177,7 +1206,7 @@ pub extern "C" fn qollqamir_psv0_lengths(d: &[u8], edition: usize) -> CLengths
 // A view by its kind and number, of PSV0 data alone.
 #[no_mangle]
 pub extern "C" fn qollqamir_psv0_view(d: &[u8], edition: usize, kind: u32, number: usize) -> CSpan
-    ensures { λ r. ⌜ CShows (now (d .entry)) (queried (opened edition (now (d .entry))) (answered edition (now (d .entry)) (questionOf (viewOf kind number)))) (bytesOf (answered edition (now (d .entry)) (questionOf (viewOf kind number)))) r ⌝ }
+    ensures { λ r. ⌜ CShows (now (d .entry)) (queried (opened edition (now (d .entry))) (answered edition (now (d .entry)) (questionOf (viewOf kind number)))) (bytesOf (answered edition (now (d .entry)) (questionOf (viewOf kind number)))) (pointsOf (viewOf kind number) (answered edition (now (d .entry)))) r ⌝ }
 {
     c_span(psv0::view_span(d, edition, view_of(kind, number)))
 }
@@ -1186,7 +1215,7 @@ pub extern "C" fn qollqamir_psv0_view(d: &[u8], edition: usize, kind: u32, numbe
 // is one that isn't there.
 #[no_mangle]
 pub extern "C" fn qollqamir_psv0_section(d: &[u8], edition: usize, section: u32) -> CSpan
-    ensures { λ r. ⌜ CShows (now (d .entry)) (sectionVerdict section (opened edition (now (d .entry))) (answered edition (now (d .entry)) (questionOf (viewOf 5 0)))) (sectionShown section (opened edition (now (d .entry))) (editionRead edition (now (d .entry))) (now (d .entry)) (answered edition (now (d .entry)) (questionOf (viewOf 5 0)))) r ⌝ }
+    ensures { λ r. ⌜ CShows (now (d .entry)) (sectionVerdict section (opened edition (now (d .entry))) (answered edition (now (d .entry)) (questionOf (viewOf 5 0)))) (sectionShown section (opened edition (now (d .entry))) (editionRead edition (now (d .entry))) (now (d .entry)) (answered edition (now (d .entry)) (questionOf (viewOf 5 0)))) Points.Unset r ⌝ }
 {
     if 5 < section {
         return c_span(psv0::view_span(d, edition, View::Mask(11)));
@@ -1210,7 +1239,7 @@ pub extern "C" fn qollqamir_program(b: &[u8], edition: usize) -> CReport
     c_report(dxil_report::report(b, edition))
 }
 
-// The data of a part ISG1, OSG1 or PSG1 alone: 43 to 45.
+// The data of a part ISG1, OSG1 or PSG1 alone: 43 to 45 and 52.
 #[no_mangle]
 pub extern "C" fn qollqamir_sg1_read(d: &[u8]) -> CSignature
     ensures { λ r. ⌜ r ≡ cSignature (signatureOf (now (d .entry))) ⌝ }
@@ -1218,7 +1247,7 @@ pub extern "C" fn qollqamir_sg1_read(d: &[u8]) -> CSignature
     c_signature(signature::read(d))
 }
 
-// Element i of such data: 43 to 45, then 26.
+// Element i of such data: 43 to 45 and 52, then 26.
 #[no_mangle]
 pub extern "C" fn qollqamir_sg1_element(d: &[u8], i: usize) -> CSignatureElement
     ensures { λ r. ⌜ r ≡ cSignatureElement (elementOf (now (d .entry)) i) ⌝ }
@@ -1226,7 +1255,7 @@ pub extern "C" fn qollqamir_sg1_element(d: &[u8], i: usize) -> CSignatureElement
     c_signature_element(signature::element(d, i))
 }
 
-// Element i of such data by itself: 43, 26, 44 of its own bytes, 45 of its own name.
+// Element i of such data by itself: 43, 26, 44 of its own bytes, 45 and 52 of its own name.
 #[no_mangle]
 pub extern "C" fn qollqamir_sg1_element_alone(d: &[u8], i: usize) -> CSignatureElement
     ensures { λ r. ⌜ r ≡ cSignatureElement (aloneOf (now (d .entry)) i) ⌝ }
@@ -1234,7 +1263,7 @@ pub extern "C" fn qollqamir_sg1_element_alone(d: &[u8], i: usize) -> CSignatureE
     c_signature_element(signature::element_alone(d, i))
 }
 
-// The name of element i of such data: 43 to 45, then 26.
+// The name of element i of such data: 43 to 45 and 52, then 26.
 #[no_mangle]
 pub extern "C" fn qollqamir_sg1_name(d: &[u8], i: usize) -> CSpan
     ensures { λ r. ⌜ r ≡ cSpan (nameView (elementOf (now (d .entry)) i)) ⌝ }
@@ -1242,7 +1271,7 @@ pub extern "C" fn qollqamir_sg1_name(d: &[u8], i: usize) -> CSpan
     c_span(signature::name(d, i))
 }
 
-// The report on a container's signature part at an edition, 0 ISG1, 1 OSG1, 2 PSG1: what opening gives, 26, then 43 to 45.
+// The report on a container's signature part at an edition, 0 ISG1, 1 OSG1, 2 PSG1: what opening gives, 26, then 43 to 45 and 52.
 #[no_mangle]
 pub extern "C" fn qollqamir_signature(b: &[u8], edition: usize, part: u32) -> CSignatureReport
     ensures { λ r. ⌜ r ≡ reportNumbered part edition (now (b .entry)) ⌝ }

@@ -4,6 +4,7 @@ use part_table_layout::Found;
 use printing::number;
 use printing::text;
 use psv0_layout::Field;
+use psv0_layout::Points;
 use psv0_layout::RuntimeInfo;
 use psv0_layout::View;
 use root_signature_layout::Item;
@@ -88,13 +89,20 @@ fn shown(b: &[u8], edition: usize, view: View) -> bool {
     }
 }
 
+// A string that is set, with its code points.
+fn string_of(s: &[u8], points: usize) {
+    text(b"\"");
+    string_bytes(s);
+    text(b"\" points ");
+    number(points);
+}
+
 fn string(b: &[u8], edition: usize, view: View) {
-    if shown(b, edition, view) {
-        text(b"\"");
-        string_bytes(container::view_bytes(b, edition, view));
-        text(b"\"");
-    } else {
-        text(b"unset");
+    let s = container::view_span(b, edition, view);
+    let points = s.points;
+    match points {
+        Points::Unset => text(b"unset"),
+        Points::Count(n) => string_of(container::view_bytes(b, edition, view), n),
     }
 }
 
@@ -378,11 +386,7 @@ fn line_of(part: SignaturePart) {
 fn name_in(d: &[u8], name: Name) {
     match name {
         Name::Unset => text(b"unset"),
-        Name::At(_, _) => {
-            text(b"\"");
-            string_bytes(signature::name_bytes(d, name));
-            text(b"\"");
-        }
+        Name::At(_, _, points) => string_of(signature::name_bytes(d, name), points),
     }
 }
 

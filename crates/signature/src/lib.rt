@@ -1,4 +1,5 @@
-// The reader of the data of a part ISG1, OSG1 or PSG1 alone: refusals 43 to 45, the elements and their names as parts of the caller's slice.
+// The reader of the data of a part ISG1, OSG1 or PSG1 alone: refusals 43 to 45 and 52, the elements and their names as parts of the caller's slice.
+use psv0_layout::Points;
 use psv0_layout::Span;
 use signature_layout::Name;
 use signature_layout::Signature;
@@ -6,16 +7,72 @@ use signature_layout::SignatureAnswer;
 use signature_layout::SignatureElement;
 use wire::Verdict;
 ghost use mathlib.Core.Path.{_≡_};
-ghost use mathlib.Core.Bool.{_&&_};
+ghost use mathlib.Core.Bool.{true, _&&_};
 ghost use Prim.Native.Nat.{_+_, _≤_};
 ghost use lib.Dec.{leb, ltb};
 ghost use lib.ListN.{length};
 ghost use Rattle.wire.specs.Verdict.{each};
 ghost use Rattle.wire.specs.declared.Verdict.the-variants.{Accepted};
-ghost use Rattle.signature_layout.specs.Signature.{countOf, startOf, fieldsOf, nameJudged, signatureJudged, signatureOf, nameOf, refusedElement, answerIf, elementOf, aloneOf, refusedName, viewOf, bytesOf};
+ghost use Rattle.psv0_layout.specs.Position.{UpToLastZero};
+ghost use Rattle.signature_layout.specs.Named.{NamesFrom, NamesDecided};
+ghost use Rattle.signature_layout.specs.Signature.{countOf, startOf, fieldsOf, nameOffset, nameGood, nameJudged, signatureJudged, signatureOf, nameOf, refusedElement, answerIf, elementOf, aloneOf, refusedName, viewOf, bytesOf};
 
-// Whether a name offset is bad, where the last zero byte ends at a place.
-fn is_bad(end: usize, o: usize) -> bool
+// ---- the names of all elements
+// The lesser of two offsets, where a second of 0 is no name.
+fn lesser(least: usize, o: usize) -> usize
+    ensures { λ r. ⌜ (r ≤ least) × ((o ≡ 0 → ⊥) → r ≤ o) ⌝ }
+{
+    if o == 0 {
+        return least;
+    }
+    if o < least {
+        return o;
+    }
+    least
+}
+
+// A place from which on all names lie: the least of their offsets, or the end of the data.
+fn least_name(d: &[u8]) -> usize
+    requires { ⌜ startOf (now d) (countOf (now d)) ≤ length (now d) ⌝ }
+    ensures { λ r. ⌜ NamesFrom (now (d .entry)) r (countOf (now (d .entry))) ⌝ }
+{
+    let count = wire::u32_at(d, 0) as usize;
+    let mut at = wire::u32_at(d, 4) as usize;
+    let mut least = d.len();
+    let mut i = 0;
+    while i < count {
+        let next = at + 32;
+        let o = wire::u32_at(&d[at..next], 4) as usize;
+        least = lesser(least, o);
+        i += 1;
+        at = next;
+    }
+    least
+}
+
+// The number of the first element whose name is not good, or the count where every name that ends is. Most parts have only bytes below 0x80 from
+// their first name on, which settles all at once; else the names are searched together, since many may refer into one long string.
+fn ill_name(d: &[u8], end: usize) -> usize
+    requires { ⌜ (startOf (now d) (countOf (now d)) ≤ length (now d)) × UpToLastZero (now d) end ⌝ }
+    ensures { λ r. ⌜ NamesDecided (now (d .entry)) r ⌝ }
+{
+    let count = wire::u32_at(d, 0) as usize;
+    let least = least_name(d);
+    if utf8::plain_from(d, least) {
+        return count;
+    }
+    if count == 0 {
+        return 0;
+    }
+    let first = wire::u32_at(d, 4) as usize;
+    let from = first + 4;
+    let to = first + 32 * count;
+    let len = d.len();
+    utf8::first_ill(&d[0..len], least, true, &d[from..to], 32, count, 0, count)
+}
+
+// Whether a name offset is that of a string that does not end, where the last zero byte ends at a place.
+fn is_cut(end: usize, o: usize) -> bool
     ensures { λ r. ⌜ r ≡ (ltb 0 o && leb end o) ⌝ }
 {
     if o == 0 {
@@ -24,20 +81,24 @@ fn is_bad(end: usize, o: usize) -> bool
     end <= o
 }
 
-// 45, element by element: the last zero byte decides every name.
+// 45 and 52, element by element: the last zero byte decides which names end.
 fn judge_names(d: &[u8]) -> Verdict
     requires { ⌜ startOf (now d) (countOf (now d)) ≤ length (now d) ⌝ }
     ensures { λ r. ⌜ r ≡ each (nameJudged (now (d .entry))) (countOf (now (d .entry))) ⌝ }
 {
     let end = strings::end_of(d);
+    let ill = ill_name(d, end);
     let count = wire::u32_at(d, 0) as usize;
     let mut at = wire::u32_at(d, 4) as usize;
     let mut i = 0;
     while i < count {
         let next = at + 32;
         let o = wire::u32_at(&d[at..next], 4) as usize;
-        if is_bad(end, o) {
+        if is_cut(end, o) {
             return Verdict::Refused(45, i);
+        }
+        if i == ill {
+            return Verdict::Refused(52, i);
         }
         i += 1;
         at = next;
@@ -45,7 +106,7 @@ fn judge_names(d: &[u8]) -> Verdict
     Verdict::Accepted
 }
 
-// Refusals 43 to 45.
+// Refusals 43 to 45 and 52.
 fn judge(d: &[u8]) -> Verdict
     ensures { λ r. ⌜ r ≡ signatureJudged (now (d .entry)) ⌝ }
 {
@@ -94,19 +155,22 @@ fn fields(e: &[u8]) -> SignatureElement
     }
 }
 
-// The name at an offset.
+// The name at an offset that was judged, with its code points.
 fn name_at(d: &[u8], o: usize) -> Name
+    requires { ⌜ nameGood (now d) o ≡ true ⌝ }
     ensures { λ r. ⌜ r ≡ nameOf (now (d .entry)) o ⌝ }
 {
     if o == 0 {
         return Name::Unset;
     }
-    Name::At(o, strings::len_at(d, o))
+    let n = strings::len_at(d, o);
+    let end = o + n;
+    Name::At(o, n, utf8::code_points(&d[o..end]))
 }
 
-// Element i, whose 32 bytes lie inside.
+// Element i, whose 32 bytes lie inside and whose name was judged.
 fn answer_at(d: &[u8], i: usize) -> SignatureAnswer
-    requires { ⌜ startOf (now d) i + 32 ≤ length (now d) ⌝ }
+    requires { ⌜ (startOf (now d) i + 32 ≤ length (now d)) × (nameGood (now d) (nameOffset (now d) i) ≡ true) ⌝ }
     ensures { λ r. ⌜ r ≡ answerIf Accepted (now (d .entry)) i ⌝ }
 {
     let at = wire::u32_at(d, 4) as usize + 32 * i;
@@ -141,7 +205,7 @@ pub fn refused(n: u8, place: usize) -> SignatureAnswer
     }
 }
 
-// Element i: 43 to 45, then 26.
+// Element i: 43 to 45 and 52, then 26.
 pub fn element(d: &[u8], i: usize) -> SignatureAnswer
     ensures { λ r. ⌜ r ≡ elementOf (now (d .entry)) i ⌝ }
 {
@@ -157,7 +221,31 @@ pub fn element(d: &[u8], i: usize) -> SignatureAnswer
     }
 }
 
-// Element i by itself, whatever the others are: 43, 26, 44 of its own bytes, 45 of its own name.
+// 45 and 52 of the name of element i, whose 32 bytes lie inside.
+fn judge_name(d: &[u8], i: usize) -> Verdict
+    requires { ⌜ startOf (now d) i + 32 ≤ length (now d) ⌝ }
+    ensures { λ r. ⌜ r ≡ nameJudged (now (d .entry)) i ⌝ }
+{
+    let at = wire::u32_at(d, 4) as usize + 32 * i;
+    let next = at + 32;
+    let o = wire::u32_at(&d[at..next], 4) as usize;
+    if o == 0 {
+        return Verdict::Accepted;
+    }
+    if utf8::is_good(d, o) {
+        return Verdict::Accepted;
+    }
+    let len = d.len();
+    if len <= o {
+        return Verdict::Refused(45, i);
+    }
+    if len - o <= strings::len_at(d, o) {
+        return Verdict::Refused(45, i);
+    }
+    Verdict::Refused(52, i)
+}
+
+// Element i by itself, whatever the others are: 43, 26, 44 of its own bytes, 45 and 52 of its own name.
 pub fn element_alone(d: &[u8], i: usize) -> SignatureAnswer
     ensures { λ r. ⌜ r ≡ aloneOf (now (d .entry)) i ⌝ }
 {
@@ -171,19 +259,10 @@ pub fn element_alone(d: &[u8], i: usize) -> SignatureAnswer
     if len < wire::u32_at(d, 4) as usize + 32 * i + 32 {
         return refused(44, 0);
     }
-    let a = answer_at(d, i);
-    let name = a.name;
-    match name {
-        Name::Unset => a,
-        Name::At(start, n) => {
-            if len <= start {
-                return refused(45, i);
-            }
-            if len - start <= n {
-                return refused(45, i);
-            }
-            a
-        }
+    let v = judge_name(d, i);
+    match v {
+        Verdict::Refused(n, place) => refused(n, place),
+        Verdict::Accepted => answer_at(d, i),
     }
 }
 
@@ -196,10 +275,11 @@ fn no_name(n: u8, place: usize) -> Span
         verdict: Verdict::Refused(n, place),
         start: 0,
         len: 0,
+        points: Points::Unset,
     }
 }
 
-// The name of an answer as a view: 26 where it has none.
+// The name of an answer as a view, with its code points: 26 where it has none.
 pub fn view_of(a: SignatureAnswer) -> Span
     ensures { λ r. ⌜ r ≡ viewOf a ⌝ }
 {
@@ -209,16 +289,17 @@ pub fn view_of(a: SignatureAnswer) -> Span
         Verdict::Refused(n, place) => no_name(n, place),
         Verdict::Accepted => match name {
             Name::Unset => no_name(26, 0),
-            Name::At(start, n) => Span {
+            Name::At(start, n, points) => Span {
                 verdict: Verdict::Accepted,
                 start: start,
                 len: n,
+                points: Points::Count(points),
             },
         },
     }
 }
 
-// The name of element i as a view: 43 to 45, then 26.
+// The name of element i as a view: 43 to 45 and 52, then 26.
 pub fn name(d: &[u8], i: usize) -> Span
     ensures { λ r. ⌜ r ≡ viewOf (elementOf (now (d .entry)) i) ⌝ }
 {
@@ -232,7 +313,7 @@ pub fn name_bytes<'a>(d: &'a [u8], name: Name) -> &'a [u8]
     let len = d.len();
     match name {
         Name::Unset => &d[0..0],
-        Name::At(start, n) => {
+        Name::At(start, n, _) => {
             if len < start {
                 return &d[0..0];
             }

@@ -5,13 +5,16 @@ use mathlib.Core.List.{List, []}
 use Prim.Native.Nat.{ℕ, _+_, _*_}
 use lib.Dec.{leb, ltb, eqb}
 use lib.ListN.{length, getD, take, drop}
+use Rattle.utf8_layout.specs.Sequence.{codePoints}
 use Rattle.wire.specs.Choice.{choose}
 use Rattle.wire.specs.Number.{u32At}
 use Rattle.wire.specs.Verdict.{_then_, check, each}
 use Rattle.wire.specs.declared.Verdict.{Verdict}
 use Rattle.wire.specs.declared.Verdict.the-variants.{Accepted, Refused}
 use Rattle.psv0_layout.specs.Answers.{numberBeside}
-use Rattle.psv0_layout.specs.Reference.{stringGood, stringAt}
+use Rattle.psv0_layout.specs.Reference.{stringEnds, stringGood, stringAt}
+use Rattle.psv0_layout.specs.declared.Points.{Points}
+use Rattle.psv0_layout.specs.declared.Points.the-variants.{Count}
 use Rattle.psv0_layout.specs.declared.Span.{Span}
 use Rattle.signature_layout.specs.declared.Name.{Name}
 use Rattle.signature_layout.specs.declared.Name.the-variants.{At, Unset}
@@ -54,12 +57,16 @@ nameOffset d i = u32At (elementAt d i) 4
 
 -- "A name offset of 0 is no name; any other counts from the header's start and needs a zero byte before the part ends": o is the offset, and the
 -- rule is that of a string reference with the part's data as the table. It may lie anywhere in the data
+unfoldable pub nameEnds : List ℕ → ℕ → Bool
+nameEnds d o = eqb o 0 || stringEnds d o
+
+-- document 02, Ask 7: "The signature names of Ask 3 follow the same rule": of a name that ends, the rest of it is that it is well formed
 unfoldable pub nameGood : List ℕ → ℕ → Bool
 nameGood d o = eqb o 0 || stringGood d o
 
--- "the first element with a bad name (45, its number as place)"
+-- "the first element with a bad name (45, its number as place)"; Ask 7: "under 52 with 45's place, checked next for that element"
 unfoldable pub nameJudged : List ℕ → ℕ → Verdict
-nameJudged d i = check (nameGood d (nameOffset d i)) 45 i
+nameJudged d i = check (nameEnds d (nameOffset d i)) 45 i then check (nameGood d (nameOffset d i)) 52 i
 
 -- "Refuse, in this order, .. a short header (43), elements outside the part (44: offset plus 32 times count above its size), the first element
 -- with a bad name". 44 also with count 0; an offset below 8 is not refused
@@ -73,7 +80,7 @@ signatureJudged d =
 unfoldable pub elementJudged : List ℕ → ℕ → Verdict
 elementJudged d i = signatureJudged d then check (ltb i (countOf d)) 26 0
 
--- element i by itself, which judges no other element: 43, 26, 44 where its own 32 bytes aren't inside, 45 for its own name
+-- element i by itself, which judges no other element: 43, 26, 44 where its own 32 bytes aren't inside, 45 and 52 for its own name
 unfoldable pub aloneJudged : List ℕ → ℕ → Verdict
 aloneJudged d i =
     check (leb 8 (length d)) 43 0
@@ -85,9 +92,9 @@ aloneJudged d i =
 unfoldable pub signatureOf : List ℕ → Signature
 signatureOf d = record { verdict = signatureJudged d; count = numberBeside (signatureJudged d) (countOf d) }
 
--- the name at the offset o: unset where that is 0, else up to the first zero byte
+-- the name at the offset o: unset where that is 0, else up to the first zero byte, with its code points
 unfoldable pub nameOf : List ℕ → ℕ → Name
-nameOf d o = choose (eqb o 0) Unset (At o (length (stringAt d o)))
+nameOf d o = choose (eqb o 0) Unset (At o (length (stringAt d o)) (codePoints (stringAt d o)))
 
 -- zeros and unset beside a refusal
 abbrev pub noElement : SignatureElement
@@ -120,10 +127,10 @@ aloneOf d i = answerIf (aloneJudged d i) d i
 
 -- the name of an answer as a view: 26 where it has none
 abbrev pub refusedName : ℕ → ℕ → Span
-refusedName n p = record { verdict = Refused n p; start = 0; len = 0 }
+refusedName n p = record { verdict = Refused n p; start = 0; len = 0; points = Points.Unset }
 
 abbrev pub viewIf : Verdict → Name → Span
-viewIf Accepted (At s n) = record { verdict = Accepted; start = s; len = n }
+viewIf Accepted (At s n c) = record { verdict = Accepted; start = s; len = n; points = Count c }
 viewIf Accepted Unset = refusedName 26 0
 viewIf (Refused n p) x = refusedName n p
 
@@ -132,5 +139,5 @@ viewOf a = viewIf (a .verdict) (a .name)
 
 -- the bytes of a name in d: none where it is unset or does not lie inside
 abbrev pub bytesOf : List ℕ → Name → List ℕ
-bytesOf d (At s n) = choose (leb (s + n) (length d)) (take n (drop s d)) []
+bytesOf d (At s n c) = choose (leb (s + n) (length d)) (take n (drop s d)) []
 bytesOf d Unset = []

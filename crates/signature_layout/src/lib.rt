@@ -15,9 +15,9 @@ pub struct SignatureElement {
     pub precision: u32,
 }
 
-// A name as a stretch of the bytes that were asked: where it starts and its length; or that there is none.
+// A name as a stretch of the bytes that were asked: where it starts, its length and its code points; or that there is none.
 pub enum Name {
-    At(usize, usize),
+    At(usize, usize, usize),
     Unset,
 }
 

@@ -1,6 +1,6 @@
 // The reports on a signature part of a container, ISG1, OSG1 or PSG1, above the opening and the reader of such data through their promises: what
-// opening gives, 26, then 43 to 45; the elements and their names; and the first element whose name differs from PSV0's. Beside a refusal nothing
-// of the file is shown.
+// opening gives, 26, then 43 to 45 and 52; the elements and their names; and the first element whose name differs from PSV0's. Beside a refusal
+// nothing of the file is shown.
 use part_table_layout::Found;
 use part_table_layout::Part;
 use psv0_layout::Field;
@@ -73,19 +73,20 @@ pub fn report(b: &[u8], edition: usize, part: SignaturePart) -> SignatureReport
 
 // An element of the part's data, which start at a place, as one of the container.
 fn moved_by(a: SignatureAnswer, by: usize) -> SignatureAnswer
-    requires { ⌜ ((s n : ℕ) → a .name ≡ Name.At s n → by + s ≤ 16777216) ⌝ }
+    requires { ⌜ ((s n c : ℕ) → a .name ≡ Name.At s n c → by + s ≤ 16777216) ⌝ }
     ensures { λ r. ⌜ r ≡ moved by a ⌝ }
 {
     let name = a.name;
     match name {
         Name::Unset => a,
-        Name::At(start, n) => {
+        Name::At(start, n, points) => {
             let v = a.verdict;
             let element = a.element;
+            let at = by + start;
             SignatureAnswer {
                 verdict: v,
                 element: element,
-                name: Name::At(by + start, n),
+                name: Name::At(at, n, points),
             }
         }
     }
@@ -107,7 +108,7 @@ pub fn element(b: &[u8], edition: usize, part: SignaturePart, i: usize) -> Signa
     moved_by(signature::element(&b[start..end], i), start)
 }
 
-// The name of element i as a view of the container: 26 where it has none.
+// The name of element i as a view of the container, with its code points: 26 where it has none.
 pub fn name(b: &[u8], edition: usize, part: SignaturePart, i: usize) -> Span
     ensures { λ r. ⌜ r ≡ viewOf (elementReportOf part edition (now (b .entry)) i) ⌝ }
 {

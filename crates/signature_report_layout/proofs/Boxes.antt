@@ -8,17 +8,18 @@ use Rattle.wire.specs.Number.{u16At, u32At}
 use Rattle.wire.specs.Stretch.{sameBytes}
 use Rattle.wire.specs.Verdict.{_then_, check, when, from, each}
 use Rattle.wire.specs.declared.Verdict.the-variants.{Accepted, Refused}
+use Rattle.utf8_layout.specs.Sequence.{table, fits, front, more, after, counted as countedIn, wellFormed, codePoints}
 use Rattle.part_table_layout.specs.Lookup.{find}
 use Rattle.part_table_layout.specs.Table.{countOf, offsetAt, nameAt, sizeAt, dataAt, endAt, earliest, partJudged, nameJudged, headerJudged, partsJudged, tableJudged}
 use Rattle.part_table_layout.specs.declared.Found.the-variants.{At as Number, Nothing}
 use Rattle.psv0_layout.specs.Field.{maskWords, sum}
 use Rattle.psv0_layout.specs.Judged.{headJudged, fieldsJudged, bodyFits, elementJudged, elementsJudged, entryJudged, judgedAt}
 use Rattle.psv0_layout.specs.Layout.{counted, afterCounted, countedFits, records, afterRecords, recordsFit, rows, sections, bodyOf, seen}
-use Rattle.psv0_layout.specs.Reference.{hasZero, untilZero, stringGood, stringAt, indexGood}
+use Rattle.psv0_layout.specs.Reference.{hasZero, untilZero, stringEnds, stringAt, stringGood, indexGood}
 use Rattle.psv0_layout.specs.Shown.{value, shownAt}
 use Rattle.container_layout.specs.Container.{psvOf, beforePsv, containerJudged, containerAnswered}
 use Rattle.container_layout.specs.Report.{dataNamed, reported}
-use Rattle.signature_layout.specs.Signature.{elementAt, nameGood, nameJudged as signatureNameJudged, signatureJudged, nameOf}
+use Rattle.signature_layout.specs.Signature.{elementAt, nameEnds, nameGood, nameJudged as signatureNameJudged, signatureJudged, nameOf}
 use Rattle.signature_layout.specs.declared.Name.{Name}
 use Rattle.signature_layout.specs.declared.Name.the-variants.{At}
 use Rattle.signature_report_layout.specs.Reported.{signatureReported, signatureReportOf, elementReported, elementReportOf, psvName, differsAt, firstDifference, differenceOf}
@@ -48,25 +49,29 @@ psv0 =
 abbrev element : ℕ → List ℕ
 element o = word 0 ++ word o ++ zeros 24
 
--- ISG1: `A`, `BC` and `A`, 109 bytes. OSG1: `BC`, 43 bytes. PSG1: `B`, 42 bytes
+-- ISG1: `A`, `BC` and `A`, 109 bytes. OSG1: `BC`, 43 bytes. PSG1: one name of the bytes C3 and y, 43 bytes
 abbrev inputs : List ℕ
 inputs = word 3 ++ word 8 ++ element 104 ++ element 106 ++ element 104 ++ (65 ∷ 0 ∷ 66 ∷ 67 ∷ 0 ∷ [])
 
 abbrev outputs : List ℕ
 outputs = word 1 ++ word 8 ++ element 40 ++ (66 ∷ 67 ∷ 0 ∷ [])
 
-abbrev patches : List ℕ
-patches = word 1 ++ word 8 ++ element 40 ++ (66 ∷ 0 ∷ [])
+abbrev patches : ℕ → List ℕ
+patches y = word 1 ++ word 8 ++ element 40 ++ (0xC3 ∷ y ∷ 0 ∷ [])
 
--- a container of 418 bytes; the last part's name begins with x
-abbrev box : ℕ → List ℕ
-box x =
-    (68 ∷ 88 ∷ 66 ∷ 67 ∷ []) ++ zeros 16 ++ (1 ∷ 0 ∷ 0 ∷ 0 ∷ []) ++ wide 162 1 ++ word 5 ++ word 52 ++ word 64 ++ word 200 ++ wide 61 1 ++ wide 112 1
+-- a container of 419 bytes; the last part's name begins with x
+abbrev boxWith : ℕ → ℕ → List ℕ
+boxWith y x =
+    (68 ∷ 88 ∷ 66 ∷ 67 ∷ []) ++ zeros 16 ++ (1 ∷ 0 ∷ 0 ∷ 0 ∷ []) ++ wide 163 1 ++ word 5 ++ word 52 ++ word 64 ++ word 200 ++ wide 61 1 ++ wide 112 1
     ++ (68 ∷ 88 ∷ 73 ∷ 76 ∷ []) ++ word 4 ++ word 7
     ++ (80 ∷ 83 ∷ 86 ∷ 48 ∷ []) ++ word 128 ++ psv0
     ++ (73 ∷ 83 ∷ 71 ∷ 49 ∷ []) ++ word 109 ++ inputs
     ++ (79 ∷ 83 ∷ 71 ∷ 49 ∷ []) ++ word 43 ++ outputs
-    ++ (x ∷ 83 ∷ 71 ∷ 49 ∷ []) ++ word 42 ++ patches
+    ++ (x ∷ 83 ∷ 71 ∷ 49 ∷ []) ++ word 43 ++ patches y
+
+-- its last name well formed
+abbrev box : ℕ → List ℕ
+box x = boxWith 0xA9 x
 
 pub data Row : Type 0 where
   reports : SignatureReport → Row
@@ -80,7 +85,10 @@ given =
     ∷ reports (signatureReportOf Patch 1 (box 80))
     ∷ reports (signatureReportOf Patch 1 (box 81))
     ∷ reports (signatureReportOf Input 4 (box 80))
+    ∷ reports (signatureReportOf Patch 1 (boxWith 0x29 80))
+    ∷ reports (signatureReportOf Output 1 (boxWith 0x29 80))
     ∷ name (elementReportOf Input 1 (box 80) 1 .name)
+    ∷ name (elementReportOf Patch 1 (box 80) 0 .name)
     ∷ differs (differenceOf Input 1 (box 80))
     ∷ differs (differenceOf Output 1 (box 80))
     ∷ differs (differenceOf Patch 1 (box 80))
@@ -93,12 +101,16 @@ said =
     -- the parts' counts and data; a part that is absent; an opening's refusal
     reports (record { verdict = Accepted; count = 3; start = 208; len = 109 })
     ∷ reports (record { verdict = Accepted; count = 1; start = 325; len = 43 })
-    ∷ reports (record { verdict = Accepted; count = 1; start = 376; len = 42 })
+    ∷ reports (record { verdict = Accepted; count = 1; start = 376; len = 43 })
     ∷ reports (record { verdict = Refused 26 0; count = 0; start = 0; len = 0 })
     ∷ reports (record { verdict = Refused 25 0; count = 0; start = 0; len = 0 })
-    -- a name as a stretch of the container
-    ∷ name (At 314 2)
-    -- `A` and `BC` as in PSV0, the third past its list; `BC` as in PSV0; `B` where PSV0 has an empty name; at edition 0 all are missing
+    -- a name that isn't well formed, and another part of that container
+    ∷ reports (record { verdict = Refused 52 0; count = 0; start = 0; len = 0 })
+    ∷ reports (record { verdict = Accepted; count = 1; start = 325; len = 43 })
+    -- names as stretches of the container, with their code points
+    ∷ name (At 314 2 2)
+    ∷ name (At 416 2 1)
+    -- `A` and `BC` as in PSV0, the third past its list; `BC` as in PSV0; a name where PSV0 has an empty one; at edition 0 all are missing
     ∷ differs (record { verdict = Accepted; first = Number 2 })
     ∷ differs (record { verdict = Accepted; first = Nothing })
     ∷ differs (record { verdict = Accepted; first = Number 0 })
@@ -107,5 +119,5 @@ said =
     ∷ []
 
 pub boxes-hold : given ≡ said
-unfolding u16At u32At sameBytes _then_ check when from each find countOf offsetAt nameAt sizeAt dataAt endAt earliest partJudged nameJudged headerJudged partsJudged tableJudged maskWords sum headJudged fieldsJudged bodyFits elementJudged elementsJudged entryJudged judgedAt counted afterCounted countedFits records afterRecords recordsFit rows sections bodyOf seen hasZero untilZero stringGood stringAt indexGood value shownAt psvOf beforePsv containerJudged containerAnswered dataNamed reported elementAt nameGood signatureNameJudged signatureJudged nameOf signatureReported signatureReportOf elementReported elementReportOf psvName differsAt firstDifference differenceOf
+unfolding table fits front more after countedIn wellFormed codePoints u16At u32At sameBytes _then_ check when from each find countOf offsetAt nameAt sizeAt dataAt endAt earliest partJudged nameJudged headerJudged partsJudged tableJudged maskWords sum headJudged fieldsJudged bodyFits elementJudged elementsJudged entryJudged judgedAt counted afterCounted countedFits records afterRecords recordsFit rows sections bodyOf seen hasZero untilZero stringEnds stringAt stringGood indexGood value shownAt psvOf beforePsv containerJudged containerAnswered dataNamed reported elementAt nameEnds nameGood signatureNameJudged signatureJudged nameOf signatureReported signatureReportOf elementReported elementReportOf psvName differsAt firstDifference differenceOf
 boxes-hold = refl

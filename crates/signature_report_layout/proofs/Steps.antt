@@ -92,8 +92,8 @@ module _ (s : SignaturePart) (k : ℕ) (b : List ℕ) {r : Part} (hr : r ≡ con
       element-is : a ≡ elementOf (signatureData s b) i
       element-is = ha ∙ ap (λ (d : List ℕ). elementOf d i) data-is
 
-      pub element-room : (o n : ℕ) → a .name ≡ At o n → r .offset + 8 + o ≤ 16777216
-      element-room o n e =
+      pub element-room : (o n c : ℕ) → a .name ≡ At o n c → r .offset + 8 + o ≤ 16777216
+      element-room o n c e =
           let l = name-inside (signatureData s b) i (rw element-is at e) in
           let f = part-fits k b (partName s) hr h in
           let t = part-short k b (partName s) hr h in
@@ -237,5 +237,5 @@ module _ (m : ℕ) (a : SignatureAnswer) where
   pub stays : a .name ≡ Unset → a ≡ moved m a
   stays e = let p : a .name ≡ movedName m (a .name) = rw e in λ i. record { verdict = a .verdict; element = a .element; name = p i }
 
-  pub moves : {s n : ℕ} → a .name ≡ At s n → record { verdict = a .verdict; element = a .element; name = At (m + s) n } ≡ moved m a
+  pub moves : {s n c : ℕ} → a .name ≡ At s n c → record { verdict = a .verdict; element = a .element; name = At (m + s) n c } ≡ moved m a
   moves e = rw e

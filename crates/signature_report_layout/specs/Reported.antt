@@ -40,7 +40,7 @@ signatureData s b = dataNamed b (partName s)
 abbrev pub signatureStart : SignaturePart → List ℕ → ℕ
 signatureStart s b = startFound b (find b (partName s))
 
--- ---- the first report: what opening gives, then "an absent part (26)", then 43 to 45 of the part's data
+-- ---- the first report: what opening gives, then "an absent part (26)", then 43 to 45 and 52 of the part's data
 unfoldable pub signatureReported : SignaturePart → ℕ → List ℕ → Verdict
 signatureReported s k b = reported signatureJudged (partName s) k b
 
@@ -55,7 +55,7 @@ signatureReportOf s k b = reportIf (signatureReported s k b) s b
 
 -- element i of the part: 26 where there is none. Its name is a stretch of the container, not of the part
 abbrev pub movedName : ℕ → Name → Name
-movedName m (At s n) = At (m + s) n
+movedName m (At s n c) = At (m + s) n c
 movedName m Unset = Unset
 
 abbrev pub moved : ℕ → SignatureAnswer → SignatureAnswer

@@ -54,7 +54,7 @@ fn search_end(t: &[u8]) -> usize
 }
 
 // One more than the place of the last zero byte: a string reference is good exactly when it lies before it. Most tables end with a zero byte,
-// which is tried first.
+// which is tried first. The search gets a slice of its own: so that this one need not stand in memory for it.
 pub fn end_of(t: &[u8]) -> usize
     ensures { λ r. ⌜ UpToLastZero (now (t .entry)) r ⌝ }
 {
@@ -65,7 +65,7 @@ pub fn end_of(t: &[u8]) -> usize
     if t[len - 1] == 0 {
         return len;
     }
-    search_end(t)
+    search_end(&t[0..len])
 }
 
 // The first zero byte from one place up to another, or the other where there is none.

@@ -1,7 +1,7 @@
 // Little-endian numbers in byte slices, and the verdict that readers and writers answer.
 // Every function takes any bytes and any place.
 ghost use mathlib.Core.Path.{_≡_};
-ghost use Prim.Native.Nat.{_+_, _≤_, _<_};
+ghost use Prim.Native.Nat.{_+_, _≤_, _<_, min};
 ghost use lib.ListN.{length, getD};
 ghost use Rattle.wire.specs.Number.{u16At, u32At, le16, le32, placed};
 ghost use Rattle.wire.specs.Stretch.{copied};
@@ -105,6 +105,13 @@ pub fn put_u32(out: &mut [u8], at: usize, n: u32)
             out[at + 3] = (n / 256 / 256 / 256 % 256) as u8;
         }
     }
+}
+
+// The lesser of two numbers.
+pub fn lesser(a: usize, b: usize) -> usize
+    ensures { λ r. ⌜ r ≡ min a b ⌝ }
+{
+    if a < b { a } else { b }
 }
 
 // Copies src over the whole of out. Where they are not equally long, nothing changes.

@@ -5,10 +5,11 @@ use std::collections::BTreeSet;
 use std::fmt::Debug;
 
 use qollqamir::raw;
-use reference::{Opening, Program, ProgramReport, Refusal};
+use reference::{Opening, Program, ProgramReport, Refusal, Text};
 
 use crate::make::get4;
 use crate::random::Random;
+use crate::strings::{ends_entry_name, Notes, Sections, Way};
 use crate::{roots, signatures};
 
 /// A difference, and the bytes it was seen on.
@@ -72,7 +73,7 @@ macro_rules! opening_and {
 }
 
 /// The numbers of the calls on a container's signature parts, and of those on its root signature.
-const REPORTED: &[u8] = opening_and!(26, 43, 44, 45);
+const REPORTED: &[u8] = opening_and!(26, 43, 44, 45, 52);
 const ROOTED: &[u8] = opening_and!(26, 46, 47, 48, 49, 50, 51);
 
 /// The calls, and the numbers that each can give.
@@ -90,10 +91,10 @@ pub const CALLS: [(&str, &[u8]); 25] = [
     ("element", REPORTED),
     ("name", REPORTED),
     ("difference", REPORTED),
-    ("sg1", &[43, 44, 45]),
-    ("sg1 element", &[26, 43, 44, 45]),
-    ("sg1 alone", &[26, 43, 44, 45]),
-    ("sg1 name", &[26, 43, 44, 45]),
+    ("sg1", &[43, 44, 45, 52]),
+    ("sg1 element", &[26, 43, 44, 45, 52]),
+    ("sg1 alone", &[26, 43, 44, 45, 52]),
+    ("sg1 name", &[26, 43, 44, 45, 52]),
     ("root", ROOTED),
     ("root item", ROOTED),
     ("root range", ROOTED),
@@ -108,7 +109,7 @@ pub const CALLS: [(&str, &[u8]); 25] = [
 pub const NUMBERS: usize = 61;
 
 /// The numbers that have a place.
-pub const PLACED: [u8; 9] = [8, 9, 22, 23, 45, 48, 49, 50, 51];
+pub const PLACED: [u8; 10] = [8, 9, 22, 23, 45, 48, 49, 50, 51, 52];
 
 /// So many places of a number are kept: of items by themselves there would be millions.
 const PLACES: usize = 1024;
@@ -128,10 +129,11 @@ macro_rules! seen {
 
 seen! {
     /// What no number tells: a file that edition 1 reads refused where none is named; how the stages compared and where the bitcode of
-    /// DXIL data alone ended; of signature data, why 26 was given, where elements and names stood, and how names compared with PSV0's; of
-    /// root signature data, why 26 was given, where items, their data and ranges stood, what floats were shown, and what was asked for by
-    /// itself beside another that is bad.
+    /// DXIL data alone ended; of signature data, why 26 was given, where elements and names stood, which of two bad names was told, and how
+    /// names compared with PSV0's; of root signature data, why 26 was given, where items, their data and ranges stood, what floats were
+    /// shown, and what was asked for by itself beside another that is bad.
     NewestAlone: "24 where no edition is named and edition 1 accepts",
+    NewestAloneIll: "24 where no edition is named, edition 1 accepts and the entry name has a zero",
     Unset: "stages unset",
     Equal: "stages equal",
     Different: "stages different",
@@ -159,13 +161,30 @@ seen! {
     BadLast: "45 at the last element of several",
     BadAtLength: "a name at the length of the data, 45",
     BadAfterZero: "a name right after the last zero, 45",
+    IllFirst: "52 at element 0 of several",
+    IllMiddle: "52 at a middle element",
+    IllLast: "52 at the last element of several",
+    BadBeforeIll: "45 before an element whose name is ill-formed",
+    IllBeforeBad: "52 before an element whose name has no zero",
+    BadTwiceOver: "45 before an element that would give it too",
+    IllTwice: "52 before an element that would give it too",
+    UnsetBeforeIll: "52 after an element without a name",
+    UnsetAtIll: "no name, where the bytes from the header's start are ill-formed, accepted",
+    OpeningBeforeIll: "22 or 24 where a signature part would give 52",
     AloneBeside45: "an element by itself, accepted where another's name is bad",
+    AloneBeside52: "an element by itself, accepted where another's name is ill-formed",
     AloneBeside44: "an element by itself, accepted where another is outside the data",
     Alone44: "an element by itself, whose own bytes are outside the data, 44",
     Alone45: "an element by itself, whose own name is bad, 45",
+    Alone52: "an element by itself, whose own name is ill-formed, 52",
+    AloneOther: "an element by itself, refused with another number or place than the whole",
     EmptyName: "an empty name",
     NameInHeader: "a name in the header",
     NameInElement: "a name in an element",
+    IllInElement: "an ill-formed name in an element, 52",
+    Ill4097: "52 in data of 4097 bytes",
+    OverElements: "a name of some bytes that goes past an element's end",
+    OverOffset: "a name of some bytes in which a name offset stands",
     NameAtLast: "a name at the last byte",
     SharedName: "a name of two elements",
     NoDifference: "no difference, with names that were compared",
@@ -182,6 +201,10 @@ seen! {
     PrefixOfPsv0: "a name that PSV0's begins with and goes on",
     PrefixByPsv0: "a name that begins with PSV0's and goes on",
     SameLength: "a name of the same length as PSV0's that differs",
+    EqualText: "equal names compared, with a byte above 7F",
+    CutText: "a name that PSV0's begins with up to a sequence",
+    OtherLastByte: "a name that differs from PSV0's in a byte that follows a lead byte",
+    SamePoints: "a name of as many code points as PSV0's and another length",
     AbsentRoot: "26 for an absent root signature",
     ItemPast: "26 for an item past the count, in a container",
     NoTable: "26 for a range of no table, in a container",
@@ -303,13 +326,14 @@ pub const EDGES: [&str; 9] = [
 ];
 
 /// How often each call gave each verdict (0: it accepted), and at which places; how often each of `SEEN` came, and of `EDGES` in a
-/// reading and in a writer.
+/// reading and in a writer; what the strings were.
 pub struct Hits {
     pub counts: [[u64; NUMBERS]; CALLS.len()],
     pub places: [[BTreeSet<usize>; NUMBERS]; CALLS.len()],
     pub seen: [u64; SEEN.len()],
     pub edges_read: [u64; EDGES.len()],
     pub edges_written: [u64; EDGES.len()],
+    pub strings: Notes,
 }
 
 impl Default for Hits {
@@ -320,6 +344,7 @@ impl Default for Hits {
             seen: [0; SEEN.len()],
             edges_read: [0; EDGES.len()],
             edges_written: [0; EDGES.len()],
+            strings: Notes::default(),
         }
     }
 }
@@ -536,16 +561,58 @@ fn report_of(answer: &Result<ProgramReport, Refusal>) -> raw::ProgramReport {
     }
 }
 
-/// A span must show the bytes of the view, where they stand; beside a refusal it is 0, 0. The start of an empty view is left free.
+/// The span of a view, or of a string with its code points. Beside a refusal all is 0.
+pub fn span_of(bytes: &[u8], view: Result<&[u8], Refusal>, points: Option<usize>) -> raw::Span {
+    let verdict = verdict_of(&view);
+    let of = |number: usize| if view.is_ok() { number } else { 0 };
+    raw::Span {
+        verdict,
+        start: view.map_or(0, |view| start_in(bytes, view)),
+        len: view.map_or(0, <[u8]>::len),
+        is_string: of(points.is_some().into()),
+        points: of(points.unwrap_or(0)),
+    }
+}
+
+/// The start of an empty view is left free, but for the bytes' end.
+fn same_span(bytes: &[u8], got: raw::Span, expected: raw::Span, what: std::fmt::Arguments) -> Check {
+    let empty = expected.verdict.number == 0 && expected.len == 0;
+    if empty {
+        same!(bytes, got.start <= bytes.len(), true, "{what}, start inside");
+    }
+    let start = if empty { got.start } else { expected.start };
+    same!(bytes, got, raw::Span { start, ..expected }, "{what}");
+    Ok(())
+}
+
+/// A span must show the bytes of the view, where they stand, and is no string.
 fn span(bytes: &[u8], got: raw::Span, expected: Result<&[u8], Refusal>, what: std::fmt::Arguments) -> Check {
-    same!(bytes, got.verdict, verdict_of(&expected), "{what}");
-    match expected {
-        Err(_) => same!(bytes, (got.start, got.len), (0, 0), "{what}, refused"),
-        Ok([]) => {
-            same!(bytes, got.len, 0, "{what}, length");
-            same!(bytes, got.start <= bytes.len(), true, "{what}, start inside");
-        }
-        Ok(view) => same!(bytes, (got.start, got.len), (start_in(bytes, view), view.len()), "{what}"),
+    same_span(bytes, got, span_of(bytes, expected, None), what)
+}
+
+/// A string's span must show its bytes, where they stand, and its code points.
+fn string(bytes: &[u8], got: raw::Span, expected: Result<Text, Refusal>, what: std::fmt::Arguments) -> Check {
+    let points = expected.map_or(0, |text| text.points);
+    same_span(bytes, got, span_of(bytes, expected.map(|text| text.bytes), Some(points)), what)
+}
+
+/// A string as the safe calls show it. One that `str` would not take is shown as none.
+pub fn safe_text(text: Text) -> qollqamir::Text {
+    qollqamir::Text { bytes: text.bytes, text: std::str::from_utf8(text.bytes).unwrap_or("no text"), points: text.points }
+}
+
+/// The safe calls show a string's bytes where they stand, the same as text, and its code points.
+pub fn same_text(
+    bytes: &[u8],
+    got: Result<qollqamir::Text, qollqamir::Refusal>,
+    expected: Result<Text, Refusal>,
+    what: std::fmt::Arguments,
+) -> Check {
+    let got = got.map_err(refusal_of);
+    same!(bytes, got, expected.map(safe_text), "{what}");
+    if let (Ok(got), Ok(expected)) = (got, expected) {
+        same!(bytes, got.text.chars().count(), expected.points, "{what}, characters");
+        same!(bytes, got.bytes.is_empty() || got.bytes.as_ptr() == expected.bytes.as_ptr(), true, "{what}, place");
     }
     Ok(())
 }
@@ -646,6 +713,7 @@ pub fn reading(random: &mut Random, reader: &Reader, bytes: &[u8], edition: usiz
             same!(bytes, got, opening_of(&expected), "open_default");
             if got.verdict.number == 24 && raw::open(bytes, 1).verdict.number == 0 {
                 hits.saw(Seen::NewestAlone);
+                hits.saw_if(Seen::NewestAloneIll, ends_entry_name(bytes));
             }
         }
         let parts = expected.as_ref().map(|opening| &opening.parts[..]).unwrap_or(&[]);
@@ -677,7 +745,7 @@ pub fn reading(random: &mut Random, reader: &Reader, bytes: &[u8], edition: usiz
         same!(bytes, got, element_of(opening.element(i)), "{name} element {edition} {i}");
         let got = (reader.view)(bytes, edition, STRING, i);
         hits.note(Call::Query, got.verdict);
-        span(bytes, got, opening.string(i), format_args!("{name} string {edition} {i}"))?;
+        string(bytes, got, opening.string(i), format_args!("{name} string {edition} {i}"))?;
         let got = (reader.view)(bytes, edition, ARRAY, i);
         hits.note(Call::Query, got.verdict);
         span(bytes, got, opening.array_bytes(i), format_args!("{name} array {edition} {i}"))?;
@@ -690,7 +758,7 @@ pub fn reading(random: &mut Random, reader: &Reader, bytes: &[u8], edition: usiz
     let any = random.next() as usize;
     let got = (reader.view)(bytes, edition, ENTRY_NAME, any);
     hits.note(Call::Query, got.verdict);
-    span(bytes, got, opening.entry_name(), format_args!("{name} entry name {edition}"))?;
+    string(bytes, got, opening.entry_name(), format_args!("{name} entry name {edition}"))?;
     // The reference keeps a copy of the stage union; the record that it hands out is where it stands.
     same!(bytes, opening.handed.runtime[..16], opening.runtime.stage_info, "{name} stage union copy");
     let got = (reader.view)(bytes, edition, STAGE_UNION, any);
@@ -710,6 +778,24 @@ pub fn reading(random: &mut Random, reader: &Reader, bytes: &[u8], edition: usiz
         wrapped(reader, bytes, edition, opening)?;
     }
     Ok(())
+}
+
+/// Opening and the strings alone, at one edition.
+pub fn texts(reader: &Reader, bytes: &[u8], edition: usize, hits: &mut Hits) -> Check {
+    let name = reader.name;
+    let expected = (reader.reference)(bytes, edition);
+    let got = (reader.open)(bytes, edition);
+    hits.note(reader.call, got.verdict);
+    same!(bytes, got, opening_of(&expected), "{name} open {edition}, strings");
+    let Ok(opening) = expected else {
+        return Ok(());
+    };
+    for i in 0..opening.element_count().unwrap_or(0).min(LONG) {
+        let got = (reader.view)(bytes, edition, STRING, i);
+        string(bytes, got, opening.string(i), format_args!("{name} string {edition} {i}, strings"))?;
+    }
+    let got = (reader.view)(bytes, edition, ENTRY_NAME, 0);
+    string(bytes, got, opening.entry_name(), format_args!("{name} entry name {edition}, strings"))
 }
 
 /// The report on a container's program, at one edition.
@@ -804,13 +890,13 @@ fn wrapped(reader: &Reader, bytes: &[u8], edition: usize, opening: &Opening) -> 
                 .map_err(|refusal| Mismatch { what: format!("safe open {edition}: {refusal}"), bytes: bytes.to_vec() })?;
             same!(bytes, (safe.file_edition(), safe.edition_read()), (opening.file_edition, opening.edition_read), "safe editions");
             same!(bytes, safe.stage_union(), &opening.runtime.stage_info[..], "safe stage union");
-            same!(bytes, safe.entry_name().map_err(refusal), opening.entry_name(), "safe entry name");
+            same_text(bytes, safe.entry_name(), opening.entry_name(), format_args!("safe entry name"))?;
             same!(bytes, safe.runtime().entry_name_offset, opening.runtime.entry_name_offset, "safe entry name offset");
             same!(bytes, safe.runtime().threads, opening.runtime.threads, "safe threads");
             same!(bytes, safe.lengths().elements.map(|e| e as usize), opening.element_count(), "safe element count");
             for i in 0..4 {
                 same!(bytes, safe.mask(3 * i).map_err(refusal), opening.mask(3 * i), "safe mask {}", 3 * i);
-                same!(bytes, safe.element_string(i).map_err(refusal), opening.string(i), "safe string {i}");
+                same_text(bytes, safe.element_string(i), opening.string(i), format_args!("safe string {i}"))?;
                 same!(bytes, safe.element_array(i).map_err(refusal), opening.array_bytes(i), "safe array {i}");
                 let got = safe.resource(i).map(|r| r.flags).map_err(refusal);
                 same!(bytes, got, opening.resource(i).map(|r| r.flags), "safe resource {i}");
@@ -844,6 +930,7 @@ pub fn write(edition: usize, sections: [&[u8]; 6], out: &[u8], hits: &mut Hits) 
     let expected = reference::write_psv0(edition, runtime, resources, strings, indices, elements, masks, &mut theirs);
     hits.note(Call::Write, got.verdict);
     index_edges(indices, elements, 16, got.verdict, &mut hits.edges_written);
+    hits.strings.sections(&Sections { runtime, strings, indices, elements, size: 16 }, got.verdict, Way::Written);
     let all = sections.concat();
     let lengths = sections.map(<[u8]>::len);
     let expected_written = raw::Written { verdict: verdict_of(&expected), len: *expected.as_ref().unwrap_or(&0) };
@@ -893,9 +980,12 @@ pub fn shown(reader: &Reader, bytes: &[u8], edition: usize, resources: usize, el
     let put = |all: &mut Vec<Option<Vec<u8>>>, fields: &[raw::Field]| {
         all.extend(fields.iter().map(|f| (f.set != 0).then(|| f.value.to_le_bytes().to_vec())));
     };
+    // The code points follow a string's bytes.
     let view = |all: &mut Vec<Option<Vec<u8>>>, kind, number| {
         let span = (reader.view)(bytes, edition, kind, number);
-        all.push((span.verdict.number == 0).then(|| bytes[span.start..span.start + span.len].to_vec()));
+        let is = span.verdict.number == 0;
+        all.push(is.then(|| bytes[span.start..span.start + span.len].to_vec()));
+        all.push(is.then(|| [span.is_string, span.points].map(usize::to_le_bytes).concat()));
     };
     let i = (reader.info)(bytes, edition);
     put(

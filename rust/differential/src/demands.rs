@@ -88,10 +88,22 @@ fn agree<T: PartialEq + Debug>(
     Ok(())
 }
 
-/// A report on a signature part with the data's bytes in the place of where they lie.
-fn signature(bytes: &[u8], edition: usize, part: u32) -> (raw::Verdict, (usize, &[u8])) {
-    let report = raw::signature(bytes, edition, part);
-    (report.verdict, (report.count, &bytes[report.start..report.start + report.len]))
+/// Of so many elements of a signature part the names are compared.
+const NAMES: usize = 3;
+
+/// A report on a signature part with the data's bytes in the place of where they lie, and the first names with their code points.
+#[derive(Debug, PartialEq)]
+struct Signature<'a> {
+    count: usize,
+    data: &'a [u8],
+    names: Vec<(u32, &'a [u8], usize)>,
+}
+
+fn signature(bytes: &[u8], edition: usize, part: u32) -> (raw::Verdict, Signature<'_>) {
+    let raw::SignatureReport { verdict, count, start, len } = raw::signature(bytes, edition, part);
+    let names = (0..count.min(NAMES)).map(|i| raw::signature_element(bytes, edition, part, i));
+    let names = names.map(|e| (e.named, &bytes[e.name_start..e.name_start + e.name_len], e.name_points)).collect();
+    (verdict, Signature { count, data: &bytes[start..start + len], names })
 }
 
 /// The report on the root signature, likewise.
@@ -100,8 +112,8 @@ fn root(bytes: &[u8], edition: usize) -> (raw::Verdict, ([u32; 4], &[u8])) {
     (verdict, ([version, parameters, samplers, flags], &bytes[start..start + len]))
 }
 
-/// Readers agree on a signature part, and on its first difference where both read edition 1 or more. An element by itself is what the report
-/// shows.
+/// Readers agree on a signature part, its names' code points among the rest, and on its first difference where both read edition 1 or more.
+/// An element by itself is what the report shows.
 pub fn signatures(bytes: &[u8], openings: &[raw::Opening; 4]) -> Check {
     for part in 0..3 {
         let reports = [0, 1, 2, 3].map(|edition| signature(bytes, edition, part));
@@ -115,7 +127,7 @@ pub fn signatures(bytes: &[u8], openings: &[raw::Opening; 4]) -> Check {
                 same!(bytes, differences[newer], differences[older], "differences {part} of editions {older} and {newer}");
             }
         }
-        let (_, (count, data)) = reports[0];
+        let Signature { count, data, .. } = reports[0].1;
         let start = raw::signature(bytes, 0, part).start;
         for i in 0..count.min(LONG) {
             let mut alone = raw::sg1_element_alone(data, i);

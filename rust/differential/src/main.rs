@@ -10,6 +10,8 @@ mod make;
 mod random;
 mod roots;
 mod signatures;
+mod strings;
+mod text;
 
 use std::panic::{catch_unwind, AssertUnwindSafe};
 use std::process::ExitCode;
@@ -18,6 +20,8 @@ use std::time::Instant;
 use compare::{Call, Check, Hits, Mismatch, CALLS, CONTAINER, EDGES, NUMBERS, PLACED, PSV0, SEEN};
 use make::{Pieces, SIZES};
 use random::Random;
+use strings::Way;
+use text::{Frame, Table};
 
 const LONGEST: usize = 16_777_216;
 
@@ -152,6 +156,7 @@ fn summary(done: &Done) -> Vec<String> {
             missed.push(what.to_string());
         }
     }
+    done.hits.strings.summary(&mut missed);
     println!("containers accepted by readers 0 to 3: {:?}", done.accepted);
     println!("widenings for readers 0 to 3: {:?}", done.widenings);
     println!("round trips: {}, of them from plain form {}", done.round_trips, done.plain);
@@ -183,7 +188,7 @@ fn vectors() -> Vec<Vec<u8>> {
 /// One container or PSV0 data, or both, looked at from every side.
 fn case(seed: u64, number: u64, vectors: &[Vec<u8>], done: &mut Done) -> Check {
     let random = &mut Random::new(seed, number);
-    match random.below(106) {
+    match random.below(114) {
         0..=3 => {
             let len = random.below(160);
             let mut bytes = random.bytes(len);
@@ -270,7 +275,8 @@ fn case(seed: u64, number: u64, vectors: &[Vec<u8>], done: &mut Done) -> Check {
         96..=99 => assemble_case(random, done),
         100 | 101 => dxil_case(random, done),
         102 | 103 => signature_case(random, done),
-        _ => root_case(random, done),
+        104 | 105 => root_case(random, done),
+        _ => text_case(random, done),
     }
 }
 
@@ -300,10 +306,11 @@ fn valid(random: &mut Random, done: &mut Done) -> Check {
     Ok(())
 }
 
-/// What reader 3 came by among the index references of PSV0 data that was made of pieces.
+/// What reader 3 came by among the references of PSV0 data that was made of pieces.
 fn note_edges(pieces: &Pieces, psv0: &[u8], done: &mut Done) {
     let verdict = qollqamir::raw::psv0_open(psv0, 3).verdict;
     compare::index_edges(&pieces.indices, &pieces.elements, pieces.element_size, verdict, &mut done.hits.edges_read);
+    done.hits.strings.sections(&pieces.judged(), verdict, Way::Read);
 }
 
 /// PSV0 data alone, and in a container.
@@ -380,6 +387,91 @@ fn root_case(random: &mut Random, done: &mut Done) -> Check {
         alone_case(random, made, make::root_flaw, roots::data, done)?;
     }
     Ok(())
+}
+
+/// A string under test as an element's name, as the entry name and as a name in a signature part; read, written and read back.
+fn text_case(random: &mut Random, done: &mut Done) -> Check {
+    let table = text::table(random, &Frame { front: 0, back: 0, unit: 4 });
+    let count = 1 + random.below(4);
+    let names = references(random, &table, count);
+    let entry = other_reference(random, &table);
+    let entry = (!random.one_in(3)).then_some(entry);
+    let pieces = Pieces::around(random, &table.bytes, &names, entry);
+    named_case(random, &pieces, done)?;
+    let good = vec![table.zero; random.below(3)];
+    let pieces = Pieces::around(random, &table.bytes, &good, Some(table.at));
+    named_case(random, &pieces, done)?;
+    signed_case(random, done)?;
+    strings::agreed(&table.bytes, table.at)
+}
+
+/// A reference beside the one under test: mostly a good one.
+fn other_reference(random: &mut Random, table: &Table) -> usize {
+    let any = random.below(table.bytes.len());
+    let good = text::good_place(random, &table.bytes, table.zero);
+    random.pick(&[table.zero, table.zero, good, good, good, table.at, any, table.bytes.len()])
+}
+
+/// References into a table, of which one is under test.
+fn references(random: &mut Random, table: &Table, count: usize) -> Vec<usize> {
+    let own = random.below(count);
+    (0..count).map(|i| if i == own { table.at } else { other_reference(random, table) }).collect()
+}
+
+/// PSV0 data in plain form whose strings are under test: written, read back, read with other sizes, and in a container.
+fn named_case(random: &mut Random, pieces: &Pieces, done: &mut Done) -> Check {
+    let edition = make::edition_of(pieces.runtime.len());
+    let len = pieces.bytes().0.len();
+    let more = random.below(9);
+    let room = random.bytes(len + more);
+    if let Ok(written) = compare::write(edition, pieces.sections(), &room, &mut done.hits)? {
+        compare::texts(&PSV0, &written, 3, &mut done.hits)?;
+    }
+    let wide = pieces.widened(random);
+    let psv0 = wide.bytes().0;
+    note_edges(&wide, &psv0, done);
+    for edition in [1 + random.below(2), 3] {
+        compare::texts(&PSV0, &psv0, edition, &mut done.hits)?;
+    }
+    if len > 2048 {
+        return Ok(());
+    }
+    match random.below(8) {
+        0 => within(random, &psv0, done),
+        1 => psv0_case(random, &psv0, done),
+        _ => Ok(()),
+    }
+}
+
+/// Signature data with a name under test, alone and in a container.
+fn signed_case(random: &mut Random, done: &mut Done) -> Check {
+    let count = if random.one_in(64) { 120 + random.below(30) } else { 1 + random.below(4) };
+    let gap = 8 + random.below(33);
+    let behind = random.one_in(2);
+    let frame = Frame { front: gap + if behind { 0 } else { 32 * count }, back: if behind { 32 * count } else { 0 }, unit: 1 };
+    let mut table = text::table(random, &frame);
+    let first = if behind { table.bytes.len() - 32 * count } else { gap };
+    let mut names = references(random, &table, count);
+    for name in &mut names {
+        if random.one_in(6) {
+            *name = 0;
+        }
+    }
+    make::signature_around(random, &mut table.bytes, first, &names);
+    signatures::data(random, &table.bytes, &mut done.hits)?;
+    if table.bytes.len() > 2048 || !random.one_in(4) {
+        return Ok(());
+    }
+    let mut pieces = Pieces::valid(random);
+    if random.one_in(3) {
+        pieces.flaw(random);
+    }
+    let mut parts = make::parts(random, &pieces.bytes().0);
+    let part = random.pick(&reference::SignaturePart::ALL).name();
+    parts.retain(|other| other.0 != part);
+    parts.push((part, table.bytes));
+    let bytes = make::container(random, &parts).0;
+    container_case(random, &bytes, done)
 }
 
 /// A part's data alone: as made, with a flaw, damaged, cut or lengthened.
@@ -550,6 +642,7 @@ fn longest(hits: &mut Hits) -> Check {
         signatures::data(random, &elements, hits)?;
     }
     roots_far(random, hits)?;
+    long_strings(random, hits)?;
     // 52 bytes beside the strings of edition 1; 44 beside the data of one part.
     let mut runtime = [0; 36];
     runtime[24] = 1;
@@ -560,6 +653,54 @@ fn longest(hits: &mut Hits) -> Check {
         compare::assemble(b"PRIV", &[size as u32], &data[..size], &[7; 16], &data[..LONGEST], hits).map(drop)?;
     }
     Ok(())
+}
+
+/// Strings in long tables, and in one that makes the longest PSV0 data: through the whole table, from everywhere in it, into a sequence,
+/// with a fault at the end.
+fn long_strings(random: &mut Random, hits: &mut Hits) -> Check {
+    // 600 elements and the rest of PSV0 data of edition 3, with up to three numbers in the index table.
+    let beside = 4 + 52 + 4 + 4 + 4 + 12 + 4 + 16 * 600;
+    for len in [70_000, LONGEST - beside] {
+        let mut table = "\u{20ac}".repeat(len / 3).into_bytes();
+        table.resize(len, 0);
+        // The last zero, and the last sequence's first byte.
+        let (zero, last) = (len - 1, len - 6 - (len - 6) % 3);
+        table[last + 3..].fill(b'A');
+        table[zero] = 0;
+        let all: Vec<usize> = (0..600).map(|_| 3 * random.below(len / 3 - 2)).collect();
+        long_names(random, &table, &[0, last, all[0]], 0, hits)?;
+        long_names(random, &table, &[0, last, all[0] + 1, 1], 1, hits)?;
+        long_names(random, &table, &all, all[1] + 2, hits)?;
+        table[last + 2] = b'A';
+        long_names(random, &table, &[zero, last + 3], 0, hits)?;
+        long_names(random, &table, &[last + 3, 0], 0, hits)?;
+    }
+    // Names of signature data alone, which may be longer than a container: over that edge, past it, with a fault past it.
+    let edge = LONGEST;
+    let mut data = vec![b'A'; edge + 600];
+    let text = "\u{1d11e}".repeat(100).into_bytes();
+    data[edge - 201..edge - 201 + text.len()].copy_from_slice(&text);
+    data[edge + 599] = 0;
+    let names = [edge - 201, edge - 1, edge + 3, edge + 200, edge + 599, 200];
+    make::signature_around(random, &mut data, 8, &names);
+    for (name, fault) in [(names[0], false), (edge - 2, false), (edge + 4, false), (names[0], true)] {
+        make::put4(&mut data, 12 + 32, name as u32);
+        if fault {
+            data[edge + 198] = b'A';
+        }
+        signatures::long_data(&data, 1, hits)?;
+    }
+    Ok(())
+}
+
+/// PSV0 data with a long string table, read and written.
+fn long_names(random: &mut Random, table: &[u8], names: &[usize], entry: usize, hits: &mut Hits) -> Check {
+    let mut pieces = Pieces::around(random, table, names, Some(entry));
+    pieces.elements.chunks_exact_mut(16).for_each(|element| element[4..9].fill(0));
+    let psv0 = pieces.bytes().0;
+    compare::texts(&PSV0, &psv0, 3, hits)?;
+    hits.strings.sections(&pieces.judged(), qollqamir::raw::psv0_open(&psv0, 3).verdict, Way::Read);
+    compare::write(3, pieces.sections(), &vec![7; psv0.len()], hits).map(drop)
 }
 
 /// Root signature data alone, longer than a container or with more items than 16 bits count.

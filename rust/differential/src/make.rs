@@ -3,6 +3,8 @@
 use reference::SignaturePart;
 
 use crate::random::Random;
+use crate::strings::Sections;
+use crate::text;
 
 pub const SIZES: [usize; 4] = [24, 36, 48, 52];
 
@@ -124,14 +126,7 @@ impl Pieces {
         let elements: usize = runtime[28..31].iter().map(|count| usize::from(*count)).sum();
         // Strings, with a last zero where one is needed.
         let words = count(random, 6, 300).max(usize::from(elements > 0 || size >= 52));
-        pieces.strings = random.bytes(4 * words);
-        for byte in &mut pieces.strings {
-            if *byte < 70 {
-                *byte = 0;
-            } else {
-                *byte = b'A' + *byte % 26;
-            }
-        }
+        pieces.strings = strings(random, 4 * words);
         if words > 0 && pieces.strings.iter().all(|byte| *byte != 0) {
             let at = random.below(4 * words);
             pieces.strings[at] = 0;
@@ -173,8 +168,67 @@ impl Pieces {
     }
 
     fn good_string(&self, random: &mut Random) -> u32 {
-        let last = self.strings.iter().rposition(|byte| *byte == 0).unwrap_or(0);
-        (if random.one_in(4) { last } else { random.below(last + 1) }) as u32
+        let last = last_zero(&self.strings);
+        text::good_place(random, &self.strings, last) as u32
+    }
+
+    /// PSV0 data in plain form around strings: elements that refer to them, of edition 3 where there is an entry name. Now and then an index
+    /// reference isn't good.
+    pub fn around(random: &mut Random, strings: &[u8], names: &[usize], entry: Option<usize>) -> Pieces {
+        let edition = if entry.is_some() { 3 } else { 1 + random.below(2) };
+        let mut runtime = random.bytes(SIZES[edition]);
+        // No vectors, so no masks.
+        runtime[24..36].fill(0);
+        runtime[24] = random.below(16) as u8;
+        runtime[25] = random.below(2) as u8;
+        let list = random.below(3);
+        for i in 0..names.len() {
+            runtime[28 + (list + i) % 3] += 1;
+        }
+        if let Some(at) = entry {
+            put4(&mut runtime, 48, at as u32);
+        }
+        let mut pieces = Pieces {
+            runtime,
+            resource_size: 24,
+            resources: Vec::new(),
+            strings: strings.to_vec(),
+            indices: Vec::new(),
+            element_size: 16,
+            elements: Vec::new(),
+            masks: Vec::new(),
+            after: Vec::new(),
+        };
+        let count = random.below(4);
+        pieces.indices = random.bytes(4 * count);
+        for name in names {
+            let mut record = random.bytes(16);
+            put4(&mut record, 0, *name as u32);
+            let (index, rows) = pieces.good_index(random);
+            put4(&mut record, 4, index + if random.one_in(12) { 5 } else { 0 });
+            record[8] = rows;
+            pieces.elements.extend_from_slice(&record);
+        }
+        pieces
+    }
+
+    /// The same with longer elements.
+    pub fn widened(&self, random: &mut Random) -> Pieces {
+        let mut wide = self.clone();
+        wide.element_size = random.pick(&[16, 20, 24, 28, 40]);
+        wide.elements = self.stretched(&self.elements, self.element_size, wide.element_size, random);
+        wide
+    }
+
+    /// What the strings are judged by.
+    pub fn judged(&self) -> Sections<'_> {
+        Sections {
+            runtime: &self.runtime,
+            strings: &self.strings,
+            indices: &self.indices,
+            elements: &self.elements,
+            size: self.element_size,
+        }
     }
 
     /// A good index reference and its rows, often up to the end of the table.
@@ -245,7 +299,7 @@ impl Pieces {
     pub fn flaw(&mut self, random: &mut Random) {
         let later = self.runtime.len() >= 36;
         let elements = self.elements.len() / self.element_size;
-        match random.below(10) {
+        match random.below(13) {
             0 if later => self.runtime[24] = random.pick(&[16, 17, 128, 255]),
             1 if later => self.runtime[25] = random.pick(&[2, 3, 128, 255]),
             2 if later => {
@@ -283,6 +337,17 @@ impl Pieces {
                 let from = random.below(self.strings.len());
                 self.strings[from..].iter_mut().for_each(|byte| *byte |= 1);
             }
+            // Text with a fault, which some names may have, or none; often at a name's start.
+            10..=12 if !self.strings.is_empty() => {
+                let mut from = random.below(self.strings.len());
+                if elements > 0 && random.one_in(2) {
+                    from = get4(&self.elements, random.below(elements) * self.element_size) as usize;
+                }
+                if let Some(strings) = self.strings.get_mut(from..) {
+                    let end = strings.len().min(1 + random.below(16));
+                    text::spoil(random, &mut strings[..end]);
+                }
+            }
             _ => return,
         }
         if later {
@@ -295,6 +360,21 @@ impl Pieces {
         let after = self.strings.iter().rposition(|byte| *byte == 0).map_or(0, |zero| zero as u32 + 1);
         random.pick(&[t, t, after, t + 1, t + 4, u32::MAX, 0x8000_0000])
     }
+}
+
+/// Strings and zeros: of letters, or of text.
+fn strings(random: &mut Random, len: usize) -> Vec<u8> {
+    if random.one_in(2) {
+        return random.bytes(len).into_iter().map(|byte| if byte < 70 { 0 } else { b'A' + byte % 26 }).collect();
+    }
+    let mut strings = Vec::new();
+    while strings.len() < len {
+        let word = random.below(12).min(len - strings.len());
+        strings.extend(text::text(random, word));
+        strings.push(0);
+    }
+    strings.truncate(len);
+    strings
 }
 
 /// DXIL data, never empty: mostly with a program header, whose stage is often the one given, and bitcode that ends with the data or near
@@ -336,24 +416,35 @@ pub fn dxil(random: &mut Random, stage: u8) -> Vec<u8> {
     data
 }
 
-/// A few letters, or none.
+/// A few letters or some text, or none.
 pub fn word(random: &mut Random) -> Vec<u8> {
     let len = random.below(5);
+    if random.one_in(3) {
+        return text::text(random, 2 * len);
+    }
     random.bytes(len).iter().map(|byte| b'A' + byte % 26).collect()
 }
 
 /// A name that is nearly the one given.
 fn other(random: &mut Random, name: &[u8]) -> Vec<u8> {
     let mut other = name.to_vec();
-    match random.below(5) {
+    match random.below(6) {
         0 => {
             other.pop();
         }
         1 => other.push(b'Z'),
         2 => other.clear(),
         3 if !name.is_empty() => other[random.below(name.len())] ^= 1,
+        4 if !name.is_empty() => {
+            // Another of as many code points.
+            let chars = std::str::from_utf8(name).map_or(0, |text| text.chars().count());
+            other = "\u{e9}".repeat(chars).into_bytes();
+        }
         _ => other = word(random),
     }
+    // Up to the first byte that is no text.
+    let end = std::str::from_utf8(&other).map_or_else(|fault| fault.valid_up_to(), str::len);
+    other.truncate(end);
     other
 }
 
@@ -415,16 +506,53 @@ pub fn signature(random: &mut Random, beside: &[Vec<u8>]) -> (Vec<u8>, Vec<usize
     // A name may stand anywhere up to the last zero.
     let last = last_zero(&data);
     if count > 0 && random.one_in(4) {
-        let places = [1 + random.below(7), first + random.below(32 * count), last, last];
-        let place = random.pick(&places);
-        let at = first + 32 * random.below(count) + 4;
-        put4(&mut data, at, place.min(last) as u32);
+        let own = first + 32 * random.below(count);
+        let place = if random.one_in(2) { last } else { inner_place(random, &mut data, first, count) };
+        put4(&mut data, own + 4, place.min(last) as u32);
+        if !text::good(&data, place.min(last)) {
+            put4(&mut data, own + 4, last as u32);
+        }
     }
     (data, fields)
 }
 
+/// A place for a name in the header or in the elements, some of whose bytes are made text.
+fn inner_place(random: &mut Random, data: &mut [u8], first: usize, count: usize) -> usize {
+    if random.one_in(3) {
+        return 1 + random.below(7);
+    }
+    let place = first + random.below(32 * count);
+    let within = (place - first) % 32;
+    if within >= 8 {
+        // Up to the next element, its stream or the low byte of its name offset.
+        let room = (32 - within + random.pick(&[0, 0, 4])).min(first + 32 * count - place);
+        let len = random.below(room + 1);
+        let text = text::text(random, len);
+        data[place..place + len].copy_from_slice(&text);
+        if len < 32 - within {
+            data[place + len] = 0;
+        }
+    }
+    place
+}
+
 fn last_zero(data: &[u8]) -> usize {
     data.iter().rposition(|byte| *byte == 0).unwrap_or(0)
+}
+
+/// Makes a table signature data: a header, and elements whose names stand at the given places.
+pub fn signature_around(random: &mut Random, table: &mut [u8], first: usize, names: &[usize]) {
+    put4(table, 0, names.len() as u32);
+    put4(table, 4, first as u32);
+    let plain = random.one_in(2);
+    for (i, name) in names.iter().enumerate() {
+        let own = first + 32 * i;
+        table[own..own + 32].copy_from_slice(&random.bytes(32));
+        if plain {
+            table[own..own + 32].iter_mut().for_each(|byte| *byte &= 0x7f);
+        }
+        put4(table, own + 4, *name as u32);
+    }
 }
 
 /// Brings records of `size` bytes, whose count and offset stand at two places, to the end of the data or past it.
@@ -465,19 +593,33 @@ fn list_flaw(random: &mut Random, data: &mut [u8], [count_at, offset_at]: [usize
 pub fn signature_flaw(random: &mut Random, data: &mut Vec<u8>) {
     let len = data.len() as u32;
     let (count, first) = (get4(data, 0), get4(data, 4));
-    match random.below(12) {
+    match random.below(16) {
         0 => data.truncate(random.below(9)),
         1..=7 => list_flaw(random, data, [0, 4], 32),
         8 => {
             let from = random.below(data.len() - 7) + 8;
             data[from..].iter_mut().for_each(|byte| *byte |= 1);
         }
-        _ if count > 0 => {
+        9..=11 if count > 0 => {
             let after = last_zero(data) as u32 + 1;
             for _ in 0..1 + random.below(2) {
                 let i = one_of(random, count);
                 let name = random.pick(&[after, after, len, len, len + 1, u32::MAX, 1 << 31]);
                 put4(data, (first + 32 * i) as usize + 4, name);
+            }
+        }
+        // A fault at a name's start, or a name anywhere.
+        12.. if count > 0 => {
+            for _ in 0..1 + random.below(2) {
+                let own = (first + 32 * one_of(random, count)) as usize + 4;
+                let name = get4(data, own) as usize;
+                if name < 8 || random.one_in(3) {
+                    let any = 1 + random.below(data.len()) as u32;
+                    put4(data, own, any);
+                } else if let Some(names) = data.get_mut(name..) {
+                    let end = names.len().min(1 + random.below(8));
+                    text::spoil(random, &mut names[..end]);
+                }
             }
         }
         _ => (),
@@ -661,7 +803,7 @@ fn parameter_flaw(random: &mut Random, data: &mut [u8]) {
 fn listed(psv0: &[u8]) -> [Vec<Vec<u8>>; 3] {
     let opening = reference::open_psv0(psv0, 1);
     SignaturePart::ALL.map(|part| match &opening {
-        Ok(opening) => part.list(&opening.runtime).filter_map(|i| opening.string(i).ok()).map(<[u8]>::to_vec).collect(),
+        Ok(opening) => part.list(&opening.runtime).filter_map(|i| opening.string(i).ok()).map(|name| name.bytes.to_vec()).collect(),
         Err(_) => Vec::new(),
     })
 }

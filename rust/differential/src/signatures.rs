@@ -1,11 +1,14 @@
 //! The calls on signature data and on a container's signature parts against the independent reader, answer by answer.
 
 use qollqamir::raw;
-use reference::{Opening, Refusal, Signature, SignatureElement, SignaturePart};
+use reference::{Opening, Refusal, Signature, SignatureElement, SignaturePart, Text};
 
-use crate::compare::{in_turn, numbers, refusal_of, same, start_in, verdict_of, Call, Check, Hits, Seen, LONG};
+use crate::compare::{
+    in_turn, numbers, refusal_of, safe_text, same, same_text, span_of, start_in, verdict_of, Call, Check, Hits, Seen, LONG,
+};
 use crate::make::get4;
 use crate::random::Random;
+use crate::text::{follows, good, string_at};
 
 fn record_of(bytes: &[u8], answer: Result<SignatureElement, Refusal>) -> raw::SignatureRecord {
     let verdict = verdict_of(&answer);
@@ -24,15 +27,15 @@ fn record_of(bytes: &[u8], answer: Result<SignatureElement, Refusal>) -> raw::Si
         exclusive_mask: of(|e| e.exclusive_mask),
         precision: of(|e| e.precision),
         named: name.is_some().into(),
-        name_start: name.map_or(0, |name| start_in(bytes, name)),
-        name_len: name.map_or(0, <[u8]>::len),
+        name_start: name.map_or(0, |name| start_in(bytes, name.bytes)),
+        name_len: name.map_or(0, |name| name.bytes.len()),
+        name_points: name.map_or(0, |name| name.points),
     }
 }
 
-/// A view, whose start is told even where it is empty.
-fn view_of(bytes: &[u8], answer: Result<&[u8], Refusal>) -> raw::Span {
-    let verdict = verdict_of(&answer);
-    answer.map_or(raw::Span { verdict, start: 0, len: 0 }, |view| raw::Span { verdict, start: start_in(bytes, view), len: view.len() })
+/// A name as a view, whose start is told even where it is empty.
+fn view_of(bytes: &[u8], answer: Result<Text, Refusal>) -> raw::Span {
+    span_of(bytes, answer.map(|name| name.bytes), Some(answer.map_or(0, |name| name.points)))
 }
 
 fn safe_of(element: SignatureElement) -> qollqamir::SignatureElement {
@@ -46,7 +49,7 @@ fn safe_of(element: SignatureElement) -> qollqamir::SignatureElement {
         mask: element.mask,
         exclusive_mask: element.exclusive_mask,
         precision: element.precision,
-        name: element.name,
+        name: element.name.map(safe_text),
     }
 }
 
@@ -59,9 +62,9 @@ fn same_signature(bytes: &[u8], safe: Result<qollqamir::Signature, Refusal>, exp
     in_turn(bytes, safe.elements(), expected.count, |i| expected.element(i).map(safe_of), "elements")?;
     for i in 0..expected.count.min(LONG) {
         same!(bytes, safe.element(i).map_err(refusal_of), expected.element(i).map(safe_of), "safe element {i}");
-        let (name, view) = (safe.name(i).map_err(refusal_of), expected.name(i));
-        same!(bytes, name, view, "safe name {i}");
-        same!(bytes, name.map(<[u8]>::as_ptr), view.map(<[u8]>::as_ptr), "place of safe name {i}");
+        same_text(bytes, safe.name(i), expected.name(i), format_args!("safe name {i}"))?;
+        let places = (safe.name(i).map(|name| name.bytes.as_ptr()).ok(), expected.name(i).map(|name| name.bytes.as_ptr()).ok());
+        same!(bytes, places.0, places.1, "place of safe name {i}");
     }
     let last = expected.count;
     same!(bytes, safe.element(last).map_err(refusal_of), expected.element(last).map(safe_of), "safe element {last}");
@@ -80,7 +83,7 @@ pub fn data(random: &mut Random, data: &[u8], hits: &mut Hits) -> Check {
     // By itself an element may be good where the whole is not.
     let stated = if data.len() < 8 { 0 } else { get4(data, 0) as usize };
     let mut asked = numbers(random, stated);
-    if got.verdict.number == 45 {
+    if [45, 52].contains(&got.verdict.number) {
         asked.push(got.verdict.place);
     }
     for i in asked {
@@ -107,6 +110,19 @@ pub fn data(random: &mut Random, data: &[u8], hits: &mut Hits) -> Check {
     Ok(())
 }
 
+/// The whole of long data and one element.
+pub fn long_data(data: &[u8], i: usize, hits: &mut Hits) -> Check {
+    let expected = reference::signature(data);
+    let got = raw::sg1_read(data);
+    hits.note(Call::Sg1, got.verdict);
+    let count = expected.map_or(0, |s| s.count);
+    same!(data, got, raw::SignatureData { verdict: verdict_of(&expected), count }, "sg1, long");
+    same!(data, raw::sg1_element(data, i), record_of(data, expected.and_then(|s| s.element(i))), "sg1 element {i}, long");
+    same!(data, raw::sg1_element_alone(data, i), record_of(data, reference::signature_element(data, i)), "sg1 alone {i}, long");
+    note_data(data, expected, hits);
+    Ok(())
+}
+
 /// What one number came by, of the whole and by itself.
 fn note_element(
     whole: Result<Signature, Refusal>,
@@ -115,59 +131,130 @@ fn note_element(
     hits: &mut Hits,
 ) {
     let number = |refusal: Refusal| refusal.number;
+    if let (Err(whole), Err(alone)) = (whole, alone) {
+        hits.saw_if(Seen::AloneOther, [45, 52].contains(&whole.number) && [45, 52].contains(&alone.number) && whole != alone);
+    }
     match (whole.map_err(number), element.map_err(number), alone.map_err(number)) {
         (Ok(_), Err(26), _) => hits.saw(Seen::PastCountData),
         (Ok(_), Ok(element), _) if element.name.is_none() => hits.saw(Seen::UnsetNameData),
         (Err(44), _, Err(26)) => hits.saw(Seen::PastCountAlone),
         (Err(44), _, Ok(_)) => hits.saw(Seen::AloneBeside44),
         (Err(45), _, Ok(_)) => hits.saw(Seen::AloneBeside45),
+        (Err(52), _, Ok(_)) => hits.saw(Seen::AloneBeside52),
         (_, _, Err(44)) => hits.saw(Seen::Alone44),
         (_, _, Err(45)) => hits.saw(Seen::Alone45),
+        (_, _, Err(52)) => hits.saw(Seen::Alone52),
         _ => (),
+    }
+}
+
+/// Data that have a header: their elements' count, start and end.
+struct Header<'a> {
+    data: &'a [u8],
+    count: u64,
+    first: u64,
+    end: u64,
+}
+
+impl<'a> Header<'a> {
+    fn of(data: &'a [u8]) -> Header<'a> {
+        let (count, first) = (u64::from(get4(data, 0)), u64::from(get4(data, 4)));
+        Header { data, count, first, end: first + 32 * count }
+    }
+
+    /// The name offset of an element that lies inside.
+    fn name(&self, i: u64) -> u64 {
+        u64::from(get4(self.data, (self.first + 32 * i + 4) as usize))
     }
 }
 
 /// Where the elements and the names of data with a header stood.
 fn note_data(data: &[u8], answer: Result<Signature, Refusal>, hits: &mut Hits) {
-    let (count, first, len) = (u64::from(get4(data, 0)), u64::from(get4(data, 4)), data.len() as u64);
-    let end = first + 32 * count;
-    let name = |i: u64| u64::from(get4(data, (first + 32 * i + 4) as usize));
-    let mut saw = |what, is| hits.saw_if(what, is);
+    let header = Header::of(data);
     match answer {
-        Err(Refusal { number: 44, .. }) => {
-            let wraps = end % (1 << 32) <= len;
-            saw(Seen::ElementsOnePast, count > 0 && end == len + 1);
-            saw(Seen::NonePast, count == 0 && end == len + 1);
-            saw(Seen::ProductPast, count >= 1 << 27);
-            saw(Seen::ProductWraps, count >= 1 << 27 && wraps);
-            saw(Seen::SumWraps, count < 1 << 27 && wraps);
-        }
-        Err(Refusal { number: 45, place }) => {
-            let place = place as u64;
-            saw(Seen::ElementsAtEnd, end == len);
-            saw(Seen::BadFirst, place == 0 && count > 1);
-            saw(Seen::BadMiddle, place > 0 && place + 1 < count);
-            saw(Seen::BadLast, place > 0 && place + 1 == count);
-            saw(Seen::BadAtLength, name(place) == len);
-            let zero = data.iter().rposition(|byte| *byte == 0).map_or(0, |zero| zero as u64);
-            saw(Seen::BadAfterZero, zero + 1 < len && name(place) == zero + 1);
-        }
-        Ok(signature) => {
-            saw(Seen::ElementsInHeader, count > 0 && first < 8);
-            saw(Seen::ElementsAtEnd, count > 0 && end == len);
-            saw(Seen::NoneAtEnd, count == 0 && end == len);
-            let names: Vec<u64> = (0..count.min(8)).map(name).filter(|o| *o != 0).collect();
-            for (i, o) in names.iter().enumerate() {
-                saw(Seen::NameInHeader, *o < 8);
-                saw(Seen::NameInElement, (first..end).contains(o));
-                saw(Seen::NameAtLast, *o == len - 1);
-                saw(Seen::SharedName, names[..i].contains(o));
-            }
-            for i in 0..signature.count.min(8) {
-                saw(Seen::EmptyName, signature.name(i) == Ok(&[]));
-            }
-        }
+        Err(Refusal { number: 44, .. }) => note_outside(&header, hits),
+        Err(Refusal { number: 45, place }) => note_bad(&header, place as u64, hits),
+        Err(Refusal { number: 52, place }) => note_ill(&header, place as u64, hits),
+        Ok(_) => note_good(&header, hits),
         _ => (),
+    }
+}
+
+fn note_outside(header: &Header, hits: &mut Hits) {
+    let &Header { data, count, end, .. } = header;
+    let len = data.len() as u64;
+    let wraps = end % (1 << 32) <= len;
+    hits.saw_if(Seen::ElementsOnePast, count > 0 && end == len + 1);
+    hits.saw_if(Seen::NonePast, count == 0 && end == len + 1);
+    hits.saw_if(Seen::ProductPast, count >= 1 << 27);
+    hits.saw_if(Seen::ProductWraps, count >= 1 << 27 && wraps);
+    hits.saw_if(Seen::SumWraps, count < 1 << 27 && wraps);
+}
+
+/// Whether elements after a place, of the next few, have a name without a zero and one that is ill-formed.
+fn later(header: &Header, place: u64) -> (bool, bool) {
+    let names: Vec<usize> = (place + 1..header.count).take(8).map(|i| header.name(i) as usize).filter(|o| *o != 0).collect();
+    let no_zero = |o: &usize| string_at(header.data, *o).is_none();
+    (names.iter().any(no_zero), names.iter().any(|o| !no_zero(o) && !good(header.data, *o)))
+}
+
+fn note_bad(header: &Header, place: u64, hits: &mut Hits) {
+    let &Header { data, count, end, .. } = header;
+    let (len, name) = (data.len() as u64, header.name(place));
+    hits.saw_if(Seen::ElementsAtEnd, end == len);
+    hits.saw_if(Seen::BadFirst, place == 0 && count > 1);
+    hits.saw_if(Seen::BadMiddle, place > 0 && place + 1 < count);
+    hits.saw_if(Seen::BadLast, place > 0 && place + 1 == count);
+    hits.saw_if(Seen::BadAtLength, name == len);
+    let zero = data.iter().rposition(|byte| *byte == 0).map_or(0, |zero| zero as u64);
+    hits.saw_if(Seen::BadAfterZero, zero + 1 < len && name == zero + 1);
+    let (no_zero, ill) = later(header, place);
+    hits.saw_if(Seen::BadTwiceOver, no_zero);
+    hits.saw_if(Seen::BadBeforeIll, ill);
+    hits.strings.bad_name(data, name as usize);
+}
+
+fn note_ill(header: &Header, place: u64, hits: &mut Hits) {
+    let &Header { data, count, first, end } = header;
+    let name = header.name(place);
+    hits.saw_if(Seen::ElementsAtEnd, end == data.len() as u64);
+    hits.saw_if(Seen::IllFirst, place == 0 && count > 1);
+    hits.saw_if(Seen::IllMiddle, place > 0 && place + 1 < count);
+    hits.saw_if(Seen::IllLast, place > 0 && place + 1 == count);
+    hits.saw_if(Seen::IllInElement, (first..end).contains(&name));
+    hits.saw_if(Seen::Ill4097, data.len() == 4097);
+    hits.saw_if(Seen::UnsetBeforeIll, (place.saturating_sub(8)..place).any(|i| header.name(i) == 0));
+    let (no_zero, ill) = later(header, place);
+    hits.saw_if(Seen::IllBeforeBad, no_zero);
+    hits.saw_if(Seen::IllTwice, ill);
+    hits.strings.bad_name(data, name as usize);
+}
+
+fn note_good(header: &Header, hits: &mut Hits) {
+    let &Header { data, count, first, end } = header;
+    let len = data.len() as u64;
+    hits.saw_if(Seen::ElementsInHeader, count > 0 && first < 8);
+    hits.saw_if(Seen::ElementsAtEnd, count > 0 && end == len);
+    hits.saw_if(Seen::NoneAtEnd, count == 0 && end == len);
+    let names: Vec<u64> = (0..count.min(8)).map(|i| header.name(i)).filter(|o| *o != 0).collect();
+    hits.saw_if(Seen::UnsetAtIll, (names.len() as u64) < count.min(8) && !good(data, 0));
+    for (i, o) in names.iter().enumerate() {
+        let name_len = string_at(data, *o as usize).map_or(0, |name| name.len() as u64);
+        hits.saw_if(Seen::EmptyName, name_len == 0);
+        hits.saw_if(Seen::NameInHeader, *o < 8);
+        hits.saw_if(Seen::NameAtLast, *o == len - 1);
+        hits.saw_if(Seen::SharedName, names[..i].contains(o));
+        if (first..end).contains(o) {
+            // How far into the element it starts, and how far past a name offset.
+            let (into, past) = ((o - first) % 32, (o - first + 28) % 32);
+            hits.saw(Seen::NameInElement);
+            hits.saw_if(Seen::OverElements, into + name_len > 32);
+            hits.saw_if(Seen::OverOffset, past >= 4 && past + name_len > 32);
+        }
+    }
+    if count <= 512 {
+        let all: Vec<usize> = (0..count).map(|i| header.name(i) as usize).filter(|o| *o != 0).collect();
+        hits.strings.names(data, &all);
     }
 }
 
@@ -249,6 +336,11 @@ fn report(
     match (opening, expected, first) {
         (Ok(opening), Ok(signature), Ok(first)) => note_names(opening, part, &signature, first, hits),
         (Ok(opening), ..) if opening.part(part.name()).is_err() => hits.saw(Seen::AbsentPart),
+        (Err(refusal), ..) if [22, 24].contains(&refusal.number) => {
+            let data = reference::table_part(bytes, part.name());
+            let ill = data.and_then(|(_, data)| reference::signature(data)).is_err_and(|refusal| refusal.number == 52);
+            hits.saw_if(Seen::OpeningBeforeIll, ill);
+        }
         _ => (),
     }
     Ok(())
@@ -263,6 +355,8 @@ fn note_names(opening: &Opening, part: SignaturePart, signature: &Signature, fir
             continue;
         };
         let beside = list.clone().nth(i).and_then(|number| opening.string(number).ok());
+        note_texts(name, beside, hits);
+        let (name, beside) = (name.bytes, beside.map(|beside| beside.bytes));
         hits.saw(match beside {
             None if opening.edition_read == 0 => Seen::MissingAtZero,
             None => Seen::MissingBeside,
@@ -283,6 +377,19 @@ fn note_names(opening: &Opening, part: SignaturePart, signature: &Signature, fir
         Some(0) => hits.saw(Seen::FirstDifference),
         Some(_) => hits.saw(Seen::LaterDifference),
     }
+}
+
+/// How a name that is not all letters compared with the one beside it.
+fn note_texts(name: Text, beside: Option<Text>, hits: &mut Hits) {
+    let Some(beside) = beside.filter(|beside| !beside.bytes.is_ascii()) else {
+        return;
+    };
+    hits.saw_if(Seen::EqualText, name == beside);
+    let same = name.bytes.iter().zip(beside.bytes).take_while(|(a, b)| a == b).count();
+    hits.saw_if(Seen::CutText, same == name.bytes.len() && beside.bytes.get(same).is_some_and(|byte| *byte > 0x7f));
+    let both = name.bytes.get(same).zip(beside.bytes.get(same));
+    hits.saw_if(Seen::OtherLastByte, both.is_some_and(|(a, b)| follows(*a) && follows(*b)));
+    hits.saw_if(Seen::SamePoints, name.points == beside.points && name.bytes.len() != beside.bytes.len());
 }
 
 /// The safe calls show what the plain ones show.

@@ -118,6 +118,8 @@ structs! {
         verdict: Verdict,
         start: usize,
         len: usize,
+        is_string: usize,
+        points: usize,
     }
 
     /// What a writer did: the length of its result, 0 beside a refusal.
@@ -188,6 +190,7 @@ structs! {
         named: u32,
         name_start: usize,
         name_len: usize,
+        name_points: usize,
     }
 
     /// The first element that differs: 1 and its number, 0 and 0 where there is none.
@@ -378,15 +381,15 @@ readers! {
     dxil_program => qollqamir_dxil_program() -> ProgramData;
     /// The report on a container's DXIL part: 25, 1 to 24, 40 to 42.
     program => qollqamir_program(edition: usize) -> ProgramReport;
-    /// The data of a part ISG1, OSG1 or PSG1 alone: 43 to 45.
+    /// The data of a part ISG1, OSG1 or PSG1 alone: 43 to 45 and 52.
     sg1_read => qollqamir_sg1_read() -> SignatureData;
-    /// Element `i` of such data: 43 to 45, 26.
+    /// Element `i` of such data: 43 to 45 and 52, 26.
     sg1_element => qollqamir_sg1_element(i: usize) -> SignatureRecord;
-    /// Element `i` of such data by itself: 43, 26, 44 of its own bytes, 45 of its own name.
+    /// Element `i` of such data by itself: 43, 26, 44 of its own bytes, 45 and 52 of its own name.
     sg1_element_alone => qollqamir_sg1_element_alone(i: usize) -> SignatureRecord;
-    /// The name of element `i` of such data: 43 to 45, 26.
+    /// The name of element `i` of such data: 43 to 45 and 52, 26.
     sg1_name => qollqamir_sg1_name(i: usize) -> Span;
-    /// The report on a container's signature part, 0 ISG1, 1 OSG1, 2 PSG1: 25, 1 to 24, 26, 43 to 45.
+    /// The report on a container's signature part, 0 ISG1, 1 OSG1, 2 PSG1: 25, 1 to 24, 26, 43 to 45 and 52.
     signature => qollqamir_signature(edition: usize, part: u32) -> SignatureReport;
     /// Element `i` of the part, its name as a stretch of the container: those of [`signature`], then 26.
     signature_element => qollqamir_signature_element(edition: usize, part: u32, i: usize) -> SignatureRecord;

@@ -2,7 +2,8 @@
 //! header, of the signature parts and of the root signature.
 //!
 //! Any bytes get an answer: the value, or a [`Refusal`] with a number of documents 01 and 02 and a place. Views are slices of the bytes
-//! handed in. A value that the file's edition or stage lacks is `None`.
+//! handed in. A value that the file's edition or stage lacks is `None`. A string is a [`Text`]: its bytes, the same as `&str`, and its code
+//! points.
 //!
 //! ```
 //! use qollqamir::{assemble, write_psv0, Container, Sections};
@@ -49,7 +50,7 @@ pub const DEFAULT_EDITION: Edition = 3;
 /// A refusal: a number of documents 01 and 02, and a place (a part, an element or an item where the number has one, otherwise 0).
 #[derive(Clone, Copy, Debug, PartialEq, Eq, Hash)]
 pub struct Refusal {
-    /// 1 to 28, or 40 to 51.
+    /// 1 to 28, or 40 to 52.
     pub number: u8,
     /// The part, element or item, from 0.
     pub place: usize,
@@ -74,6 +75,30 @@ pub struct Part<'a> {
     pub offset: usize,
     /// Its data.
     pub data: &'a [u8],
+}
+
+/// A string of the file, without its zero. The reader accepts well-formed UTF-8 alone, by the Unicode Standard's table, which is what `str` asks for.
+#[derive(Clone, Copy, Debug, PartialEq, Eq, Hash)]
+pub struct Text<'a> {
+    /// Its bytes, a part of those that were handed in.
+    pub bytes: &'a [u8],
+    /// The same as text.
+    pub text: &'a str,
+    /// Its number of code points, as the reader counted them.
+    pub points: usize,
+}
+
+impl<'a> Text<'a> {
+    fn of(bytes: &'a [u8], points: usize) -> Self {
+        let text = std::str::from_utf8(bytes).expect("a string that is shown is well formed");
+        Text { bytes, text, points }
+    }
+}
+
+impl std::fmt::Display for Text<'_> {
+    fn fmt(&self, f: &mut std::fmt::Formatter<'_>) -> std::fmt::Result {
+        f.write_str(self.text)
+    }
 }
 
 /// The fields of the runtime record; the stage union is [`Container::stage_union`].
@@ -195,7 +220,7 @@ pub struct ProgramReport<'a> {
 }
 
 fn judged(verdict: raw::Verdict) -> Result<(), Refusal> {
-    match u8::try_from(verdict.number).expect("the numbers are 1 to 28 and 40 to 51") {
+    match u8::try_from(verdict.number).expect("the numbers are 1 to 28 and 40 to 52") {
         0 => Ok(()),
         number => Err(Refusal { number, place: verdict.place }),
     }
@@ -205,9 +230,13 @@ fn value(field: raw::Field) -> Option<u32> {
     (field.set != 0).then_some(field.value)
 }
 
-fn shown(bytes: &[u8], span: raw::Span) -> Result<&[u8], Refusal> {
-    judged(span.verdict)?;
-    Ok(&bytes[span.start..span.start + span.len])
+fn shown(bytes: &[u8], verdict: raw::Verdict, start: usize, len: usize) -> Result<&[u8], Refusal> {
+    judged(verdict)?;
+    Ok(&bytes[start..start + len])
+}
+
+fn viewed(bytes: &[u8], span: raw::Span) -> Result<&[u8], Refusal> {
+    shown(bytes, span.verdict, span.start, span.len)
 }
 
 fn found(bytes: &[u8], name: [u8; 4], part: raw::Found) -> Result<Part<'_>, Refusal> {
@@ -313,7 +342,7 @@ pub fn known(name: [u8; 4]) -> bool {
 /// ```
 pub fn dxil_program(data: &[u8]) -> Result<Program<'_>, Refusal> {
     let raw::ProgramData { verdict, header, start, len } = raw::dxil_program(data);
-    Ok(Program { header, bitcode: shown(data, raw::Span { verdict, start, len })? })
+    Ok(Program { header, bitcode: shown(data, verdict, start, len)? })
 }
 
 /// Writes PSV0 data in plain form to the front of `out` and answers its length. Refusals in order: 25, 27, 2, 15 to 24, 28. A refusal
@@ -391,8 +420,8 @@ macro_rules! queries {
         }
 
         /// The name of element `i`, or 26.
-        pub fn element_string(&self, i: usize) -> Result<&'a [u8], Refusal> {
-            self.view(ELEMENT_STRING, i)
+        pub fn element_string(&self, i: usize) -> Result<Text<'a>, Refusal> {
+            self.text(ELEMENT_STRING, i)
         }
 
         /// The bytes of the index array of element `i`, four a number and as many numbers as it has rows, or 26.
@@ -401,8 +430,8 @@ macro_rules! queries {
         }
 
         /// The entry name, or 26 where it is unset.
-        pub fn entry_name(&self) -> Result<&'a [u8], Refusal> {
-            self.view(ENTRY_NAME, 0)
+        pub fn entry_name(&self) -> Result<Text<'a>, Refusal> {
+            self.text(ENTRY_NAME, 0)
         }
 
         /// The bytes of mask `number`, 0 to 10, or 26; one that isn't there is empty.
@@ -412,7 +441,7 @@ macro_rules! queries {
 
         /// The bytes of every section for writing again; none of one that is unset.
         pub fn sections(&self) -> Sections<'a> {
-            let section = |number| shown(self.bytes, raw::$section(self.bytes, self.edition, number)).unwrap_or(&[]);
+            let section = |number| viewed(self.bytes, raw::$section(self.bytes, self.edition, number)).unwrap_or(&[]);
             Sections {
                 runtime: section(0),
                 resources: section(1),
@@ -423,8 +452,13 @@ macro_rules! queries {
             }
         }
 
+        fn text(&self, kind: u32, number: usize) -> Result<Text<'a>, Refusal> {
+            let span = raw::$view(self.bytes, self.edition, kind, number);
+            Ok(Text::of(viewed(self.bytes, span)?, span.points))
+        }
+
         fn view(&self, kind: u32, number: usize) -> Result<&'a [u8], Refusal> {
-            shown(self.bytes, raw::$view(self.bytes, self.edition, kind, number))
+            viewed(self.bytes, raw::$view(self.bytes, self.edition, kind, number))
         }
     };
 }
@@ -489,7 +523,7 @@ impl<'a> Container<'a> {
     /// The report on the DXIL part: 40 to 42 as [`dxil_program`] gives them.
     pub fn program(&self) -> Result<ProgramReport<'a>, Refusal> {
         let raw::ProgramReport { verdict, header, start, len, psv0_stage, stages } = raw::program(self.bytes, self.edition);
-        let bitcode = shown(self.bytes, raw::Span { verdict, start, len })?;
+        let bitcode = shown(self.bytes, verdict, start, len)?;
         let stages = match stages {
             STAGES_EQUAL => Stages::Equal,
             STAGES_DIFFERENT => Stages::Different,
@@ -498,7 +532,7 @@ impl<'a> Container<'a> {
         Ok(ProgramReport { header, bitcode, psv0_stage: value(psv0_stage), stages })
     }
 
-    /// The report on a signature part: 26 where it is absent, then 43 to 45, as [`signature`](fn@signature) gives them.
+    /// The report on a signature part: 26 where it is absent, then 43 to 45 and 52, as [`signature`](fn@signature) gives them.
     pub fn signature(&self, part: SignaturePart) -> Result<Signature<'a>, Refusal> {
         signature(self.bytes, self.edition, part)
     }

@@ -205,5 +205,5 @@ pub fn rts0_range_alone(data: &[u8], i: usize, j: usize) -> Result<RootRange, Re
 /// [`table`](fn@crate::table) and [`RootSignature::read`].
 pub fn root_signature(bytes: &[u8], edition: Edition) -> Result<RootSignature<'_>, Refusal> {
     let raw::RootReport { verdict, version, parameters, samplers, flags, start, len } = raw::root_signature(bytes, edition);
-    Ok(RootSignature { data: shown(bytes, raw::Span { verdict, start, len })?, version, parameters, samplers, flags })
+    Ok(RootSignature { data: shown(bytes, verdict, start, len)?, version, parameters, samplers, flags })
 }

@@ -3,7 +3,7 @@
 use std::iter::FusedIterator;
 use std::ops::Range;
 
-use crate::{judged, raw, shown, Edition, Refusal};
+use crate::{judged, raw, shown, Edition, Refusal, Text};
 
 /// One of the three signature parts. Each has a list of PSV0 elements beside it.
 #[derive(Clone, Copy, Debug, PartialEq, Eq, Hash)]
@@ -44,14 +44,13 @@ pub struct SignatureElement<'a> {
     pub mask: u32,
     pub exclusive_mask: u32,
     pub precision: u32,
-    /// A part of the data that were handed in. An empty name is a name.
-    pub name: Option<&'a [u8]>,
+    /// An empty name is a name.
+    pub name: Option<Text<'a>>,
 }
 
 /// An element, whose name is a stretch of the bytes.
 fn element_of(bytes: &[u8], record: raw::SignatureRecord) -> Result<SignatureElement<'_>, Refusal> {
-    judged(record.verdict)?;
-    let name = raw::Span { verdict: record.verdict, start: record.name_start, len: record.name_len };
+    let name = shown(bytes, record.verdict, record.name_start, record.name_len)?;
     Ok(SignatureElement {
         stream: record.stream,
         name_offset: record.name_offset,
@@ -62,7 +61,7 @@ fn element_of(bytes: &[u8], record: raw::SignatureRecord) -> Result<SignatureEle
         mask: record.mask,
         exclusive_mask: record.exclusive_mask,
         precision: record.precision,
-        name: if record.named != 0 { Some(shown(bytes, name)?) } else { None },
+        name: (record.named != 0).then(|| Text::of(name, record.name_points)),
     })
 }
 
@@ -77,8 +76,8 @@ fn element_of(bytes: &[u8], record: raw::SignatureRecord) -> Result<SignatureEle
 /// data[72..75].copy_from_slice(b"POS");
 ///
 /// let signature = Signature::read(&data)?;
-/// let names: Vec<_> = signature.elements().map(|element| element.name).collect();
-/// assert_eq!(names, [Some(&b"POS"[..]), None]);
+/// let names: Vec<_> = signature.elements().map(|element| element.name.map(|name| name.text)).collect();
+/// assert_eq!(names, [Some("POS"), None]);
 /// assert_eq!(Signature::read(&data[..75]).unwrap_err(), Refusal { number: 45, place: 0 });
 /// # Ok::<(), Refusal>(())
 /// ```
@@ -90,7 +89,8 @@ pub struct Signature<'a> {
 
 impl<'a> Signature<'a> {
     /// Judges the data of a part ISG1, OSG1 or PSG1 alone. Refusals in order: 43 (under 8 bytes), 44 (offset + 32 x count is above their
-    /// length), 45 (the first element whose name has no zero byte at its end inside them, its number as place).
+    /// length), then element by element, its number as place, 45 (its name has no zero byte at its end inside them) and 52 (the bytes before
+    /// that zero aren't well-formed UTF-8).
     pub fn read(data: &'a [u8]) -> Result<Self, Refusal> {
         let raw::SignatureData { verdict, count } = raw::sg1_read(data);
         judged(verdict)?;
@@ -113,7 +113,7 @@ impl<'a> Signature<'a> {
     }
 
     /// The name of element `i`, or 26 where there is no such element or it has none.
-    pub fn name(&self, i: usize) -> Result<&'a [u8], Refusal> {
+    pub fn name(&self, i: usize) -> Result<Text<'a>, Refusal> {
         self.element(i)?.name.ok_or(Refusal { number: 26, place: 0 })
     }
 
@@ -169,17 +169,17 @@ impl ExactSizeIterator for Elements<'_> {}
 
 impl FusedIterator for Elements<'_> {}
 
-/// Element `i` of the data of a signature part by itself, whatever the others are. Refusals in order: 43, 26, 44 of its own 32 bytes, 45 of
-/// its own name. Where [`Signature::read`] accepts the data, this is their element `i`.
+/// Element `i` of the data of a signature part by itself, whatever the others are. Refusals in order: 43, 26, 44 of its own 32 bytes, 45 and
+/// 52 of its own name. Where [`Signature::read`] accepts the data, this is their element `i`.
 pub fn sg1_element_alone(data: &[u8], i: usize) -> Result<SignatureElement<'_>, Refusal> {
     element_of(data, raw::sg1_element_alone(data, i))
 }
 
 /// The report on a container's signature part at an edition: what [`Container::open`](crate::Container::open) refuses, 26 where the part is
-/// absent, then 43 to 45 as [`Signature::read`] gives them. Its names are parts of the container.
+/// absent, then 43 to 45 and 52 as [`Signature::read`] gives them. Its names are parts of the container.
 pub fn signature(bytes: &[u8], edition: Edition, part: SignaturePart) -> Result<Signature<'_>, Refusal> {
     let raw::SignatureReport { verdict, count, start, len } = raw::signature(bytes, edition, part as u32);
-    Ok(Signature { data: shown(bytes, raw::Span { verdict, start, len })?, count })
+    Ok(Signature { data: shown(bytes, verdict, start, len)?, count })
 }
 
 /// The number of the first named element of a signature part whose name is not that of the PSV0 element of the same list and number, or

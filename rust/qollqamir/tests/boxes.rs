@@ -1,10 +1,14 @@
-//! The boxes M and C of document 01 through the safe calls, the program header, the signature parts and the root signature of
-//! document 02, and the last field of every struct.
+//! The boxes M and C of document 01 through the safe calls, the program header, the signature parts, the root signature and
+//! the strings of document 02, and the last field of every struct.
 
 use qollqamir::*;
 
 fn refused<T>(number: u8, place: usize) -> Result<T, Refusal> {
     Err(Refusal { number, place })
+}
+
+fn text(text: &str) -> Text<'_> {
+    Text { bytes: text.as_bytes(), text, points: text.chars().count() }
 }
 
 /// A container of a DXIL part, whose data are a multiple of 4 bytes long, and a PSV0 part.
@@ -98,7 +102,7 @@ fn box_c_has_an_entry_name() {
     let bytes = box_c(52, 1);
     assert_eq!(bytes.len(), 136);
     let c = Container::open(&bytes, 3).unwrap();
-    assert_eq!(c.entry_name(), Ok(&b"main"[..]));
+    assert_eq!(c.entry_name(), Ok(text("main")));
     assert_eq!(c.runtime().threads, [Some(0), Some(0), Some(9)]);
     assert_eq!(c.runtime().entry_name_offset, Some(1));
     assert_eq!(c.lengths(), Lengths { resources: Some(0), strings: Some(8), indices: Some(0), elements: Some(0) });
@@ -107,16 +111,16 @@ fn box_c_has_an_entry_name() {
     let newest = Container::open_default(&bytes).unwrap();
     assert_eq!((newest.edition(), newest.edition_read(), newest.file_edition()), (3, 3, 3));
     assert_eq!(newest, c);
-    assert_eq!(newest.entry_name(), Ok(&b"main"[..]));
+    assert_eq!(newest.entry_name(), Ok(text("main")));
     assert_eq!(Container::open(&bytes, 1).unwrap().entry_name(), refused(26, 0));
 
-    assert_eq!(Container::open(&box_c(52, 5), 3).unwrap().entry_name(), Ok(&b""[..]));
+    assert_eq!(Container::open(&box_c(52, 5), 3).unwrap().entry_name(), Ok(text("")));
     assert_eq!(Container::open(&box_c(52, 8), 3), refused(24, 0));
     assert_eq!(Container::open_default(&box_c(52, 8)), refused(24, 0));
     for edition in 0..=2 {
         assert_eq!(Container::open(&box_c(52, 8), edition).unwrap().edition_read(), edition);
     }
-    assert_eq!(Container::open(&box_c(56, 1), 3).unwrap().entry_name(), Ok(&b"main"[..]));
+    assert_eq!(Container::open(&box_c(56, 1), 3).unwrap().entry_name(), Ok(text("main")));
 }
 
 #[test]
@@ -151,7 +155,7 @@ fn last_fields() {
     assert_eq!((resource.binding_type, resource.flags), (Some(0x1b1a_1918), Some(0x2f2e_2d2c)));
     assert_eq!(psv0.resource(2), refused(26, 0));
     assert_eq!(psv0.element(0).unwrap().reserved, Some(0x99));
-    assert_eq!(psv0.element_string(0), Ok(&b"A"[..]));
+    assert_eq!(psv0.element_string(0), Ok(text("A")));
     assert_eq!(psv0.element_array(0), Ok(&b"last"[..]));
     assert_eq!(psv0.element_array(1), refused(26, 0));
     assert_eq!(psv0.lengths().elements, Some(1));
@@ -288,21 +292,24 @@ fn a_signature_is_shown_with_its_names() {
         mask: 0x68,
         exclusive_mask: 0x69,
         precision: 0x6f6e_6d6c,
-        name: Some(b"BC"),
+        name: Some(text("BC")),
     };
     assert_eq!(signature.element(2), Ok(element));
     assert_eq!(sg1_element_alone(&data, 2), Ok(element));
     assert_eq!(signature.element(3), refused(26, 0));
-    assert_eq!(signature.name(0), Ok(&b"A"[..]));
+    assert_eq!(signature.name(0), Ok(text("A")));
     assert_eq!(signature.name(1), refused(26, 0));
     assert_eq!(signature.name(3), refused(26, 0));
     // The last field of the record of the plain call.
-    assert_eq!(raw::sg1_element(&data, 2).name_len, 2);
-    assert_eq!(raw::sg1_name(&data, 2), raw::Span { verdict: raw::Verdict { number: 0, place: 0 }, start: 106, len: 2 });
+    assert_eq!(raw::sg1_element(&data, 2).name_points, 2);
+    assert_eq!(
+        raw::sg1_name(&data, 2),
+        raw::Span { verdict: raw::Verdict { number: 0, place: 0 }, start: 106, len: 2, is_string: 1, points: 2 }
+    );
 
     let mut elements = signature.elements();
     assert_eq!(elements.len(), 3);
-    assert_eq!(elements.clone().map(|e| e.name).collect::<Vec<_>>(), [Some(&b"A"[..]), None, Some(b"BC")]);
+    assert_eq!(elements.clone().map(|e| e.name).collect::<Vec<_>>(), [Some(text("A")), None, Some(text("BC"))]);
     assert_eq!(elements.nth(1).map(|e| e.mask), Some(0x48));
     assert_eq!(elements.next(), Some(element));
     assert_eq!((elements.next(), elements.next(), elements.len()), (None, None, 0));
@@ -317,7 +324,7 @@ fn a_signature_is_shown_with_its_names() {
             assert_eq!(report, qollqamir::signature(&bytes, edition, part).unwrap());
             assert_eq!((report, report.data().as_ptr()), (signature, bytes[start..].as_ptr()));
             assert!(report.elements().eq(signature.elements()));
-            assert_eq!(report.name(2).unwrap().as_ptr(), bytes[start + 106..].as_ptr());
+            assert_eq!(report.name(2).unwrap().bytes.as_ptr(), bytes[start + 106..].as_ptr());
             assert_eq!(raw::signature(&bytes, edition, part as u32).len, data.len());
             assert_eq!(raw::signature_element(&bytes, edition, part as u32, 2).name_start, start + 106);
             assert_eq!(raw::signature_name(&bytes, edition, part as u32, 2).start, start + 106);
@@ -367,7 +374,7 @@ fn a_signature_is_refused() {
     // The last zero is at 105; an empty name is a name, and a name may start in the header or in an element.
     let mut data = sg1(&[105, 1, 4], b"A\0BC");
     let names: Vec<_> = Signature::read(&data).unwrap().into_iter().map(|e| e.name).collect();
-    assert_eq!(names, [Some(&b""[..]), Some(b""), Some(b"\x08")]);
+    assert_eq!(names, [Some(text("")), Some(text("")), Some(text("\x08"))]);
     for (i, name) in [(2, 106), (1, 108), (0, u32::MAX)] {
         put4(&mut data, 12 + 32 * i, name);
         refuses(&data, 45, i);
@@ -376,10 +383,10 @@ fn a_signature_is_refused() {
     // By itself an element is good whatever the others are; 26 comes first, then its own bytes.
     put4(&mut data, 44, 104);
     refuses(&data, 45, 0);
-    assert_eq!(sg1_element_alone(&data, 1).unwrap().name, Some(&b"A"[..]));
+    assert_eq!(sg1_element_alone(&data, 1).unwrap().name, Some(text("A")));
     put4(&mut data, 0, 4);
     refuses(&data, 44, 0);
-    assert_eq!(sg1_element_alone(&data, 1).unwrap().name, Some(&b"A"[..]));
+    assert_eq!(sg1_element_alone(&data, 1).unwrap().name, Some(text("A")));
     assert_eq!(sg1_element_alone(&data, 3), refused(44, 0));
     assert_eq!(sg1_element_alone(&data, 4), refused(26, 0));
 
@@ -390,6 +397,101 @@ fn a_signature_is_refused() {
         assert_eq!(qollqamir::signature(&bytes, edition, SignaturePart::Output), refused(output, 0));
         assert_eq!(first_difference(&bytes, edition, SignaturePart::Input), refused(input, 0));
         assert_eq!(first_difference(&bytes, edition, SignaturePart::Output), refused(output, 0));
+    }
+}
+
+#[test]
+fn strings_are_utf_8() {
+    // The entry name: two bytes that are one code point, the middle of them, and bytes that no row of the table has.
+    let entry = |name: &[u8], offset: usize| {
+        let mut psv0 = psv0_c(52, 1 + offset as u8);
+        let start = psv0.len() - 12;
+        psv0[start + 1..start + 7].fill(0);
+        psv0[start + 1..start + 1 + name.len()].copy_from_slice(name);
+        shader(&psv0)
+    };
+    for name in ["\u{e9}", "a\u{20ac}", "\u{10ffff}z", "\u{feff}", "\u{ffff}", "\u{d7ff}", "\u{e000}"] {
+        let bytes = entry(name.as_bytes(), 0);
+        let container = Container::open(&bytes, 3).unwrap();
+        assert_eq!(container.entry_name(), Ok(text(name)));
+        assert_eq!(container.entry_name().unwrap().to_string(), name);
+    }
+    assert_eq!(Container::open(&entry("\u{e9}".as_bytes(), 1), 3), refused(24, 0));
+    for name in [&b"\x80"[..], b"\xed\xa0\x80", b"\xe0\x80\x80", b"\xf4\x90\x80\x80", b"\xc3", b"a\xf0\x9f\x98"] {
+        assert_eq!(Container::open(&entry(name, 0), 3), refused(24, 0));
+        for edition in 0..=2 {
+            assert!(Container::open(&entry(name, 0), edition).is_ok());
+        }
+        // Bytes that no reference leads to are not judged.
+        assert!(Container::open(&entry(&[name, b"\0"].concat(), name.len() + 1), 3).is_ok());
+
+        // The second of three elements; 45 of the third comes after.
+        let names = [b"A\0", name, b"\0"].concat();
+        let data = sg1(&[104, 106, 104 + names.len() as u32], &names);
+        assert_eq!(Signature::read(&data), refused(52, 1));
+        assert_eq!(sg1_element_alone(&data, 0).unwrap().name, Some(text("A")));
+        assert_eq!(sg1_element_alone(&data, 1), refused(52, 1));
+        assert_eq!(sg1_element_alone(&data, 2), refused(45, 2));
+        assert_eq!(qollqamir::signature(&with(&psv0_s(), SignaturePart::Patch, &data), 3, SignaturePart::Patch), refused(52, 1));
+        assert_eq!(Signature::read(&sg1(&[104 + names.len() as u32, 106, 0], &names)), refused(45, 0));
+    }
+    let data = sg1(&[104], "\0".as_bytes());
+    assert_eq!(Signature::read(&data).unwrap_err().number, 45);
+    let names = "\u{e9}\u{20ac}\0";
+    let data = sg1(&[40, 42, 0], names.as_bytes());
+    assert_eq!(Signature::read(&data).map(|signature| signature.count()), Ok(3));
+
+    // An element's name, as it is written and read; 22 comes before 23 and 24.
+    let mut runtime = [0; 52];
+    (runtime[24], runtime[28], runtime[48]) = (1, 2, 4);
+    let strings = "\u{e9}\0A\0\0\0\0".as_bytes();
+    let mut out = [0; 256];
+    let mut written = |name, index| {
+        let mut elements = [0; 32];
+        (elements[16], elements[20]) = (name, index);
+        write_psv0(3, Sections { runtime: &runtime, strings, elements: &elements, ..Sections::default() }, &mut out)
+    };
+    assert_eq!(written(1, 1), refused(22, 1));
+    assert_eq!(written(0, 1), refused(23, 1));
+    let len = written(0, 0).unwrap();
+    let psv0 = Psv0::open(&out[..len], 3).unwrap();
+    assert_eq!((psv0.element_string(0), psv0.element_string(1)), (Ok(text("\u{e9}")), Ok(text("\u{e9}"))));
+    assert_eq!(psv0.entry_name(), Ok(text("")));
+    let union = raw::psv0_view(&out[..len], 3, 0, 0);
+    assert_eq!((union.start, union.len, union.is_string, union.points), (4, 16, 0, 0));
+}
+
+#[test]
+fn long_tables_are_judged_alike() {
+    // Lengths at which the reader takes another way: letters of two bytes up to a zero at the very end, the entry name at different places.
+    for len in [28, 32, 36, 252, 256, 260, 4092, 4096, 4100, 262140, 262144, 262148, 524288] {
+        let mut table = "\u{e9}".repeat(len / 2 - 2).into_bytes();
+        table.extend_from_slice(b"abc\0");
+        let psv0 = |offset: usize, table: &[u8]| {
+            let mut psv0 = [&52u32.to_le_bytes()[..], &[0; 52], &[0; 4], &(len as u32).to_le_bytes(), table, &[0; 4]].concat();
+            psv0[4 + 24] = 1;
+            psv0[4 + 48..4 + 52].copy_from_slice(&(offset as u32).to_le_bytes());
+            psv0
+        };
+        let edges = [2, 30, 32, 34, 254, 256, 4094, 4096, 262142, 262144, len - 8, len - 6, len - 4];
+        for offset in edges.into_iter().filter(|offset| *offset <= len - 4) {
+            let good = psv0(offset, &table);
+            let name = Psv0::open(&good, 3).unwrap().entry_name().unwrap();
+            assert_eq!((name.bytes.len(), name.points), (len - 1 - offset, (len - 4 - offset) / 2 + 3), "{len} {offset}");
+            if offset < len - 4 {
+                assert_eq!(Psv0::open(&psv0(offset + 1, &table), 3), refused(24, 0), "{len} {offset}");
+            }
+            // A fault at the very end, which is in another block than most references.
+            let mut fault = table.clone();
+            fault[len - 2] = 0xff;
+            assert_eq!(Psv0::open(&psv0(offset, &fault), 3), refused(24, 0), "{len} {offset}");
+            // A fault before the reference doesn't count.
+            if offset > 2 {
+                let mut fault = table.clone();
+                fault[0] = b'a';
+                assert_eq!(Psv0::open(&psv0(offset, &fault), 3).unwrap().entry_name(), Ok(name), "{len} {offset}");
+            }
+        }
     }
 }
 

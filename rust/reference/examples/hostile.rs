@@ -2,8 +2,9 @@
 //! COUNT) made-up containers of at most 66,000 bytes for the small program. Of
 //! ten, four are such as every edition accepts, two have an entry name that
 //! edition 3 refuses and edition 1 passes, three are refused with a number that
-//! was aimed at (1 and 3 to 23 in turn), and one is damaged anyhow. It prints how
-//! many there are of each answer.
+//! was aimed at (1 and 3 to 23 in turn), and one is damaged anyhow. Many strings
+//! have letters of several bytes, and 22 and 24 are given for ill-formed ones, too.
+//! It prints how many there are of each answer.
 
 #[path = "../tests/common/mod.rs"]
 mod common;
@@ -47,6 +48,10 @@ fn main() {
     counts.print();
     assert!(10 * counts.entry_name >= count, "a tenth that edition 3 alone refuses");
     assert!(3 * counts.every_edition >= count - count % 10, "a third that every edition accepts");
+    if count >= 300 {
+        assert!(counts.ill_formed.iter().all(|number| *number > 0), "22 and 24 for such strings");
+        assert!(20 * counts.longer >= count, "a twentieth with letters of several bytes");
+    }
 }
 
 /// How many containers there are of each kind. Those that the small program
@@ -64,6 +69,10 @@ struct Counts {
     unknown: usize,
     odd: usize,
     gaps: usize,
+    /// Edition 3 accepts, and a string has fewer code points than bytes.
+    longer: usize,
+    /// Edition 3 gives 22 or 24 for a string that isn't well formed.
+    ill_formed: [usize; 2],
 }
 
 impl Counts {
@@ -80,6 +89,10 @@ impl Counts {
         *self.answers.entry([newest, one]).or_default() += 1;
         self.every_edition += usize::from((0..=NEWEST).all(|edition| by(edition).is_none()));
         self.entry_name += usize::from(newest == Some(24) && one.is_none());
+        self.longer += usize::from(has_longer(bytes));
+        for (count, number) in self.ill_formed.iter_mut().zip([22, 24]) {
+            *count += usize::from(newest == Some(number) && is_ill_formed(bytes));
+        }
         if one.is_some() {
             return;
         }
@@ -109,7 +122,40 @@ impl Counts {
              {} with unknown names, {} with odd bytes in a name",
             self.longest, self.most_parts, self.gaps, self.unknown, self.odd
         );
+        let [element, entry] = self.ill_formed;
+        println!(
+            "edition 3 accepts and a string has letters of several bytes: {}; refuses a string that \
+             isn't well formed: {element} with 22, {entry} with 24",
+            self.longer
+        );
     }
+}
+
+/// Whether edition 3 shows a string of fewer code points than bytes.
+fn has_longer(bytes: &[u8]) -> bool {
+    open(bytes, NEWEST).is_ok_and(|opening| {
+        let names = (0..opening.element_count().unwrap_or(0)).map(|i| opening.string(i));
+        let mut texts = names.chain([opening.entry_name()]).flatten();
+        texts.any(|text| text.points < text.bytes.len())
+    })
+}
+
+/// Whether a container that edition 3 refuses with 22 or 24 gets another answer
+/// with letters in place of all bytes of its strings outside ASCII.
+fn is_ill_formed(bytes: &[u8]) -> bool {
+    // Edition 0 reads up to the string table.
+    let opening = open(bytes, 0).expect("22 and 24 are of later editions");
+    let (i, data) = opening.part(*b"PSV0").expect("it was opened");
+    let at = opening.layout.end;
+    let length = u32::from_le_bytes(data[at..at + 4].try_into().unwrap()) as usize;
+    let start = opening.parts[i].offset + 8 + at + 4;
+    let mut letters = bytes.to_vec();
+    for byte in &mut letters[start..start + length] {
+        if !byte.is_ascii() {
+            *byte = b'x';
+        }
+    }
+    answer(open(&letters, NEWEST)) != answer(open(bytes, NEWEST))
 }
 
 /// A container that every edition accepts.
@@ -127,7 +173,7 @@ fn bad_entry_name(random: &mut Random) -> Vec<u8> {
             continue;
         }
         let length = psv0.strings.len();
-        let offset = match random.below(8) {
+        let offset = match random.below(12) {
             // The table's end, and past it.
             0..=2 => length,
             3 => length + 1 + random.below(300),
@@ -141,10 +187,12 @@ fn bad_entry_name(random: &mut Random) -> Vec<u8> {
                 from + random.below(length - from)
             }
             // No table at all.
-            _ => {
+            7 => {
                 psv0.strings.clear();
                 0
             }
+            // A string that isn't well formed.
+            _ => ill_formed_place(random, &mut psv0.strings),
         };
         put4(&mut psv0.runtime, 48, offset as u32);
         let data = psv0.bytes();
@@ -243,15 +291,15 @@ fn large(random: &mut Random) -> Psv0 {
     let records = random.pick(&[0, 1, 100]);
     psv0.resources = random.bytes(24 * records);
     let length = 4 * (1 + random.below(1000));
-    psv0.strings = random.bytes(length);
-    psv0.strings[length - 1] = 0;
+    psv0.strings = strings(random, length, b"abcXYZ_9");
+    let good = good_places(&psv0.strings);
     let count = random.below(1000);
     psv0.indices = (0..count).map(|_| random.next() as u32).collect();
     let elements: usize = psv0.runtime[28..31].iter().map(|n| usize::from(*n)).sum();
     for _ in 0..elements {
         let i = random.below(count + 1);
         let rows = random.below((count - i).min(255) + 1) as u8;
-        let name = random.below(length) as u32;
+        let name = random.pick(&good) as u32;
         psv0.elements.extend(element(name, i as u32, [rows, 0, 0x41, 0, 3, 2, 0, 0]));
     }
     psv0.masks = random.bytes(4 * mask_total(&psv0.runtime));
@@ -465,6 +513,11 @@ fn bad_psv0(random: &mut Random, mut psv0: Psv0, number: u8) -> Vec<u8> {
             for _ in 0..=random.below(3) {
                 let at = random.below(elements) * psv0.element_size as usize;
                 if (number == 22) != random.one_in(6) {
+                    if random.one_in(2) {
+                        let place = ill_formed_place(random, &mut psv0.strings) as u32;
+                        put4(&mut psv0.elements, at, place);
+                        continue;
+                    }
                     let length = psv0.strings.len() as u32;
                     let wrong = [length, length + 1, length | 1 << 16, 1 << 31, u32::MAX];
                     put4(&mut psv0.elements, at, random.pick(&wrong));

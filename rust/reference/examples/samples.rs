@@ -1,15 +1,18 @@
 //! `cargo run --release --example samples DIRECTORY [COUNT]` writes 3,000 (or
-//! COUNT) made-up containers that reader 3 accepts, of all editions and eight stages, for
-//! `compare-obj2yaml`. Index arrays are any stretches of the table, and numbers
-//! that LLVM names are among those it knows, so that LLVM reads them too. Of the
-//! signature parts some have names or sizes that LLVM or the reader refuses, and
-//! some have a number without a name; so have some of the root signatures, of both
-//! versions and with every kind of item.
+//! COUNT) made-up containers of all editions and eight stages, for
+//! `compare-obj2yaml`. Reader 3 accepts them, but for some whose one fault is an
+//! element's name or an entry name that isn't well formed (22 and 24). Index arrays
+//! are any stretches of the table, and numbers that LLVM names are among those it
+//! knows, so that LLVM reads them too; half of the string tables have letters of
+//! several bytes. Of the signature parts some have names (52 among them) or sizes that
+//! LLVM or the reader refuses, and some have a number without a name; so have some of
+//! the root signatures, of both versions and with every kind of item.
 
 #[path = "../tests/common/mod.rs"]
 mod common;
 use common::*;
-use reference::SignaturePart;
+use reference::{signature_report, SignaturePart};
+use std::collections::BTreeMap;
 
 fn main() {
     let Some((directory, count)) = directory_and_count("samples") else {
@@ -19,15 +22,50 @@ fn main() {
     // Numbers of their own, which leave the other parts what they are without.
     let mut signatures = Random(0x0f1e_2d3c_4b5a_6978);
     let mut roots = Random(0x7856_3412_f0de_bc9a);
+    let mut texts = Random(0x2b84_e1c9_5f30_77d6);
+    let mut kinds = BTreeMap::new();
     for number in 0..count {
-        let bytes = sample(&mut random, &mut signatures, &mut roots);
-        assert!(reference::open(&bytes, 3).is_ok());
+        let bytes = sample(&mut random, &mut signatures, &mut roots, &mut texts);
+        count_strings(&bytes, &mut kinds);
         let path = directory.join(format!("{number:04}.bin"));
         std::fs::write(path, bytes).expect("the file can be written");
     }
+    if count >= 300 {
+        assert_eq!(kinds.keys().collect::<Vec<_>>(), [&22, &24, &52, &LONGER]);
+        assert!(6 * kinds[&LONGER] > count, "a sixth with letters of several bytes: {kinds:?}");
+    }
 }
 
-fn sample(random: &mut Random, signatures: &mut Random, roots: &mut Random) -> Vec<u8> {
+/// Stands for an accepted container with a string of fewer code points than bytes.
+const LONGER: u8 = 0xff;
+
+/// Counts a container by what it is to request 7.
+fn count_strings(bytes: &[u8], kinds: &mut BTreeMap<u8, usize>) {
+    let opening = match reference::open(bytes, 3) {
+        Ok(opening) => opening,
+        Err(refusal) => {
+            assert!(refusal.number == 22 || refusal.number == 24);
+            *kinds.entry(refusal.number).or_default() += 1;
+            return;
+        }
+    };
+    let names = (0..opening.element_count().unwrap_or(0)).map(|i| opening.string(i));
+    if names.chain([opening.entry_name()]).flatten().any(|text| text.points < text.bytes.len()) {
+        *kinds.entry(LONGER).or_default() += 1;
+    }
+    for part in SignaturePart::ALL {
+        if signature_report(bytes, 3, part).is_err_and(|refusal| refusal.number == 52) {
+            *kinds.entry(52).or_default() += 1;
+        }
+    }
+}
+
+fn sample(
+    random: &mut Random,
+    signatures: &mut Random,
+    roots: &mut Random,
+    texts: &mut Random,
+) -> Vec<u8> {
     let stage = random.pick(&[0u8, 1, 2, 3, 4, 5, 13, 14]);
     let size = random.pick(&[24, 28, 36, 40, 48, 52, 52, 56]);
     let mut psv0 = Psv0::of_size(size);
@@ -44,7 +82,7 @@ fn sample(random: &mut Random, signatures: &mut Random, roots: &mut Random) -> V
         psv0.resources.extend(record);
     }
     if size >= 36 {
-        later_sections(random, stage, &mut psv0);
+        later_sections(random, texts, stage, &mut psv0);
     }
     if random.one_in(4) {
         psv0.after = random.bytes(4);
@@ -58,14 +96,17 @@ fn sample(random: &mut Random, signatures: &mut Random, roots: &mut Random) -> V
     dxil[8..12].copy_from_slice(b"DXIL");
     dxil[13] = 1;
     dxil[16] = 16;
-    let psv0 = psv0.bytes();
-    let mut parts = vec![(*b"DXIL", dxil), (*b"PSV0", psv0.clone())];
-    let opening = reference::open_psv0(&psv0, 3).expect("accepted");
+    let good = psv0.bytes();
+    let opening = reference::open_psv0(&good, 3).expect("accepted");
+    if size >= 36 && texts.one_in(16) {
+        spoil_string(texts, &mut psv0);
+    }
+    let mut parts = vec![(*b"DXIL", dxil), (*b"PSV0", psv0.bytes())];
     for part in SignaturePart::ALL {
         if !signatures.one_in(4) {
             let list = part.list(&opening.runtime);
-            let names: Vec<&[u8]> = list.map(|i| opening.string(i).expect("good")).collect();
-            parts.push((part.name(), signature(signatures, &names)));
+            let names: Vec<&[u8]> = list.map(|i| opening.string(i).expect("good").bytes).collect();
+            parts.push((part.name(), signature(signatures, texts, &names)));
         }
     }
     if !roots.one_in(4) {
@@ -76,8 +117,19 @@ fn sample(random: &mut Random, signatures: &mut Random, roots: &mut Random) -> V
     container(&parts)
 }
 
+/// An element's name or the entry name that isn't well formed, and no other fault.
+fn spoil_string(random: &mut Random, psv0: &mut Psv0) {
+    let at = ill_formed_place(random, &mut psv0.strings) as u32;
+    let elements = psv0.elements.len() / psv0.element_size as usize;
+    if psv0.runtime.len() >= 52 && random.one_in(2) {
+        put4(&mut psv0.runtime, 48, at);
+    } else if elements > 0 {
+        put4(&mut psv0.elements, random.below(elements) * psv0.element_size as usize, at);
+    }
+}
+
 /// The data of a signature part, most names as in PSV0's list.
-fn signature(random: &mut Random, names: &[&[u8]]) -> Vec<u8> {
+fn signature(random: &mut Random, texts: &mut Random, names: &[&[u8]]) -> Vec<u8> {
     let count = random.below(5);
     let gap = random.pick(&[0, 0, 0, 1, 4]);
     let end = 8 + gap + 32 * count;
@@ -88,7 +140,14 @@ fn signature(random: &mut Random, names: &[&[u8]]) -> Vec<u8> {
         let at = (end + strings.len()) as u32;
         match names.get(i) {
             Some(name) if !random.one_in(8) => strings.extend_from_slice(name),
-            _ => strings.extend((0..random.below(4)).map(|_| random.pick(b"abcXYZ_9"))),
+            _ => {
+                strings.extend((0..random.below(4)).map(|_| random.pick(b"abcXYZ_9")));
+                match texts.below(24) {
+                    0 => strings.extend_from_slice(texts.pick(&ILL_FORMED)),
+                    1..=8 => strings.extend(multibyte(texts)),
+                    _ => {}
+                }
+            }
         }
         strings.push(0);
         let any = (random.next() >> 32) as u32;
@@ -273,7 +332,7 @@ fn spoil_root(random: &mut Random, data: &mut Vec<u8>) {
     }
 }
 
-fn later_sections(random: &mut Random, stage: u8, psv0: &mut Psv0) {
+fn later_sections(random: &mut Random, texts: &mut Random, stage: u8, psv0: &mut Psv0) {
     let runtime = &mut psv0.runtime;
     runtime[24] = stage;
     runtime[25] = random.below(2) as u8;
@@ -287,6 +346,11 @@ fn later_sections(random: &mut Random, stage: u8, psv0: &mut Psv0) {
     }
     psv0.strings = (0..16).map(|_| random.pick(b"\0abcXYZ_9")).collect();
     psv0.strings[15] = 0;
+    if texts.one_in(2) {
+        let length = 16 + 4 * texts.below(9);
+        psv0.strings = strings(texts, length, b"abcXYZ_9");
+    }
+    let good = good_places(&psv0.strings);
     // At times a table that has room for the most rows.
     let count = if random.one_in(8) { 255 + random.below(46) } else { random.below(13) };
     psv0.indices = (0..count).map(|_| (random.next() >> 32) as u32).collect();
@@ -297,7 +361,7 @@ fn later_sections(random: &mut Random, stage: u8, psv0: &mut Psv0) {
         let i = random.below(count + 1);
         let most = (count - i).min(255);
         let rows = if random.one_in(4) { most } else { random.below(most + 1) };
-        let mut record = words(&[random.below(16) as u32, i as u32]);
+        let mut record = words(&[random.pick(&good) as u32, i as u32]);
         record.push(rows as u8);
         // Start row, columns and so on, semantic, component, interpolation,
         // dynamic mask and stream, reserved.
@@ -308,7 +372,7 @@ fn later_sections(random: &mut Random, stage: u8, psv0: &mut Psv0) {
         psv0.elements.extend(record);
     }
     if psv0.runtime.len() >= 52 {
-        put4(&mut psv0.runtime, 48, random.below(16) as u32);
+        put4(&mut psv0.runtime, 48, random.pick(&good) as u32);
     }
     // More than any of these has, then as much as the reader takes.
     psv0.masks = random.bytes(64 * 1024);

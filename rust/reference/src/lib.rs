@@ -1,6 +1,6 @@
 //! A reader and writer of DirectX containers and their PSV0 part, and a reader
 //! of the DXIL part's header, of the signature parts and of the root signature,
-//! written from documents 000, 001 and 01 and requests 1 to 3, 5 and 6 of 02
+//! written from documents 000, 001 and 01 and requests 1 to 3 and 5 to 7 of 02
 //! alone. It is a second opinion: every rule stands here as directly as it can be
 //! said, so that another reader can be held against it.
 //!
@@ -9,9 +9,11 @@
 //!   an [`Opening`], whose methods are the queries (refusal 26).
 //! * [`program`] reads the header of DXIL data (refusals 40 to 42), and
 //!   [`program_report`] that of a container, with both stages.
-//! * [`signature`] reads the data of a signature part (refusals 43 to 45),
-//!   [`signature_element`] one element of it by itself, [`signature_report`] a
+//! * [`signature`] reads the data of a signature part (refusals 43 to 45 and
+//!   52), [`signature_element`] one element of it by itself, [`signature_report`] a
 //!   part of a container; [`first_difference`] compares its names with PSV0's.
+//! * [`code_points`] counts those of a string, or says that it isn't well-formed
+//!   UTF-8. Names are handed out as [`Text`], which has the count.
 //! * [`root_signature`] reads the data of RTS0 (refusals 46 to 51), [`root_item`]
 //!   and [`root_range`] one item or range of it by itself, [`root_report`] that of
 //!   a container.
@@ -31,6 +33,7 @@ mod root;
 mod show;
 mod signature;
 mod table;
+mod utf8;
 mod write;
 
 pub use inspect::inspect;
@@ -48,6 +51,7 @@ pub use signature::{
     SignaturePart,
 };
 pub use table::{find, known, table, table_part, Part, KNOWN};
+pub use utf8::{code_points, Text};
 pub use write::{assemble, plain, write_psv0};
 
 /// The greatest length of a container, and of PSV0 data read or written alone.

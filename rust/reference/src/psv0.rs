@@ -1,7 +1,8 @@
 //! Opening a container and its PSV0 data, and the queries on an opening.
 
+use crate::utf8::{bytes_at, Reference, References};
 use crate::{
-    find, number2, number4, refusal, refusal_at, table, Part, Refusal, DEFAULT_EDITION,
+    find, number2, number4, refusal, refusal_at, table, Part, Refusal, Text, DEFAULT_EDITION,
     EDITION_SIZES, LEAST_RECORD, LONGEST, LONG_RESOURCE, MASKS, NEWEST,
 };
 
@@ -409,10 +410,11 @@ fn read_later<'a>(cursor: &mut Cursor<'a>, runtime: &Runtime) -> Result<Later<'a
     }
     let all_masks = &before[..before.len() - cursor.ahead.len()];
 
-    // The references. A zero byte stands at o or later inside the table exactly
-    // when o is not past the last zero of the table, so one search does for all.
-    let last_zero = strings.iter().rposition(|byte| *byte == 0);
-    let good_string = |o: u32| last_zero.is_some_and(|zero| o as usize <= zero);
+    // The references. Request 7: "A string reference is now good only when the
+    // bytes before its zero are well formed [...] 22 and 24 widen accordingly in
+    // reader and writer; the order of checks stays."
+    let references = References::of(strings);
+    let good_string = |o: u32| references.to(o) == Reference::Good;
     for (i, record) in elements.each().enumerate() {
         let element = Element::read(record);
         if !good_string(element.name_offset) {
@@ -429,14 +431,6 @@ fn read_later<'a>(cursor: &mut Cursor<'a>, runtime: &Runtime) -> Result<Later<'a
     }
 
     Ok(Later { strings, indices, elements, all_masks, masks })
-}
-
-/// The string at o: the bytes before the first zero at o or later. None when
-/// the reference isn't good.
-pub(crate) fn string_at(strings: &[u8], o: u32) -> Option<&[u8]> {
-    let from_o = strings.get(o as usize..)?;
-    let length = from_o.iter().position(|byte| *byte == 0)?;
-    Some(&from_o[..length])
 }
 
 /// The bytes of an element's index array, or None when its reference i isn't
@@ -505,10 +499,15 @@ impl<'a> Opening<'a> {
     }
 
     /// The name of an element.
-    pub fn string(&self, i: usize) -> Result<&'a [u8], Refusal> {
+    pub fn string(&self, i: usize) -> Result<Text<'a>, Refusal> {
+        Text::of(self.string_bytes(i)?).ok_or(refusal(26))
+    }
+
+    /// The bytes of the name of an element.
+    pub(crate) fn string_bytes(&self, i: usize) -> Result<&'a [u8], Refusal> {
         let later = self.later.ok_or(refusal(26))?;
         let element = self.element(i)?;
-        string_at(later.strings, element.name_offset).ok_or(refusal(26))
+        bytes_at(later.strings, element.name_offset).ok_or(refusal(26))
     }
 
     /// The bytes of the index array of an element.
@@ -525,10 +524,10 @@ impl<'a> Opening<'a> {
     }
 
     /// The entry name.
-    pub fn entry_name(&self) -> Result<&'a [u8], Refusal> {
+    pub fn entry_name(&self) -> Result<Text<'a>, Refusal> {
         let later = self.later.ok_or(refusal(26))?;
         let o = self.runtime.entry_name_offset.ok_or(refusal(26))?;
-        string_at(later.strings, o).ok_or(refusal(26))
+        bytes_at(later.strings, o).and_then(Text::of).ok_or(refusal(26))
     }
 
     /// The bytes of a mask; one that isn't there is empty.

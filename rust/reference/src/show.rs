@@ -2,7 +2,7 @@
 //! parts and its root signature show, one item a line.
 
 use crate::{known, open, program, root, signature};
-use crate::{Opening, Part, RootItem, RootSignature, SignaturePart, Stages};
+use crate::{Opening, Part, RootItem, RootSignature, SignaturePart, Stages, Text};
 use std::fmt::Write;
 
 /// The lines for a container at an edition; every line ends with a line feed.
@@ -50,10 +50,7 @@ fn lines(opening: &Opening, text: &mut String) -> std::fmt::Result {
     for (field, number) in fields {
         writeln!(text, "{field} {}", value(number))?;
     }
-    match opening.entry_name() {
-        Ok(string) => writeln!(text, "entry_name {}", quoted(string))?,
-        Err(_) => writeln!(text, "entry_name unset")?,
-    }
+    writeln!(text, "entry_name {}", value(opening.entry_name().ok().map(string)))?;
 
     writeln!(text, "resources {}", opening.resource_count())?;
     for i in 0..opening.resource_count() {
@@ -75,10 +72,10 @@ fn lines(opening: &Opening, text: &mut String) -> std::fmt::Result {
     writeln!(text, "elements {}", value(opening.element_count()))?;
     for i in 0..opening.element_count().unwrap_or(0) {
         let e = opening.element(i).expect("every element below the count is there");
-        let string = opening.string(i).expect("its name was judged good");
+        let name = opening.string(i).expect("its name was judged good");
         let array = opening.array(i).expect("its array was judged good");
         let numbers: Vec<String> = array.iter().map(u32::to_string).collect();
-        write!(text, "element {i} name {} indices [{}]", quoted(string), numbers.join(" "))?;
+        write!(text, "element {i} name {} indices [{}]", string(name), numbers.join(" "))?;
         let fields = [
             ("name_offset", e.name_offset),
             ("index_reference", e.index_reference),
@@ -147,7 +144,7 @@ fn signature_lines(opening: &Opening, part: SignaturePart, text: &mut String) ->
     writeln!(text, "{head} elements {}", signature.count)?;
     for i in 0..signature.count {
         let e = signature.element(i).expect("every element below the count is there");
-        write!(text, "{head} {i} name {}", value(e.name.map(quoted)))?;
+        write!(text, "{head} {i} name {}", value(e.name.map(string)))?;
         let fields = [
             ("name_offset", e.name_offset),
             ("index", e.index),
@@ -286,7 +283,12 @@ fn hex(bytes: &[u8]) -> String {
     text
 }
 
-/// A string in double quotes; bytes 32 to 126 but `"` and `\` as they are, any
+/// A string that is set: its bytes, and its code points.
+fn string(text: Text) -> String {
+    format!("{} points {}", quoted(text.bytes), text.points)
+}
+
+/// Bytes in double quotes; those from 32 to 126 but `"` and `\` as they are, any
 /// other as `\x` and its two digits.
 fn quoted(bytes: &[u8]) -> String {
     let mut text = String::with_capacity(bytes.len() + 2);

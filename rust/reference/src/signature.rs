@@ -1,7 +1,7 @@
 //! The signature parts ISG1, OSG1 and PSG1, and their names beside PSV0's.
 
-use crate::psv0::string_at;
-use crate::{number4, open, refusal, refusal_at, Opening, Refusal, Runtime};
+use crate::utf8::{bytes_at, Reference, References};
+use crate::{number4, open, refusal, refusal_at, Opening, Refusal, Runtime, Text};
 use std::ops::Range;
 
 /// The length of the header: the element count and the first element's offset.
@@ -62,20 +62,22 @@ pub struct SignatureElement<'a> {
     pub mask: u32,
     pub exclusive_mask: u32,
     pub precision: u32,
-    /// The bytes before the zero; an empty name is a name.
-    pub name: Option<&'a [u8]>,
+    /// An empty name is a name.
+    pub name: Option<Text<'a>>,
 }
 
 impl<'a> SignatureElement<'a> {
-    /// The element whose 32 bytes start at `at` and lie inside, or None when it
-    /// has a bad name.
-    fn read(data: &'a [u8], at: usize) -> Option<SignatureElement<'a>> {
+    /// Element i, whose 32 bytes start at `at` and lie inside: 45, 52.
+    fn read(data: &'a [u8], at: usize, i: usize) -> Result<SignatureElement<'a>, Refusal> {
         let name_offset = number4(data, at + 4);
         let name = match name_offset {
             0 => None,
-            o => Some(string_at(data, o)?),
+            o => {
+                let bytes = bytes_at(data, o).ok_or(refusal_at(45, i))?;
+                Some(Text::of(bytes).ok_or(refusal_at(52, i))?)
+            }
         };
-        Some(SignatureElement {
+        Ok(SignatureElement {
             stream: number4(data, at),
             name_offset,
             index: number4(data, at + 8),
@@ -106,14 +108,27 @@ impl<'a> Signature<'a> {
         if i >= self.count {
             return Err(refusal(26));
         }
-        let element = SignatureElement::read(self.data, self.first + ELEMENT * i);
+        let element = SignatureElement::read(self.data, self.first + ELEMENT * i, i);
         Ok(element.expect("its name was judged good"))
     }
 
     /// The name of an element, or 26 where there is none.
-    pub fn name(&self, i: usize) -> Result<&'a [u8], Refusal> {
+    pub fn name(&self, i: usize) -> Result<Text<'a>, Refusal> {
         self.element(i)?.name.ok_or(refusal(26))
     }
+
+    /// The bytes of the name of an element that is there.
+    fn name_bytes(&self, i: usize) -> Option<&'a [u8]> {
+        match name_offset(self.data, self.first, i) {
+            0 => None,
+            o => bytes_at(self.data, o),
+        }
+    }
+}
+
+/// The name offset of element i, which lies inside.
+fn name_offset(data: &[u8], first: usize, i: usize) -> u32 {
+    number4(data, first + ELEMENT * i + 4)
 }
 
 /// The element count and the first element's offset: 43. 32-bit numbers held in
@@ -125,27 +140,31 @@ fn header(data: &[u8]) -> Result<(u64, u64), Refusal> {
     Ok((u64::from(number4(data, 0)), u64::from(number4(data, 4))))
 }
 
-/// The data of a signature part alone: 43 to 45.
+/// The data of a signature part alone: 43, 44, then element by element 45 and 52.
+/// Request 7: "The signature names of Ask 3 follow the same rule, under 52 with
+/// 45's place, checked next for that element."
 pub fn signature(data: &[u8]) -> Result<Signature<'_>, Refusal> {
     let (count, first) = header(data)?;
     if first + ELEMENT as u64 * count > data.len() as u64 {
         return Err(refusal(44));
     }
     let (count, first) = (count as usize, first as usize);
-    // A zero byte stands at o or later exactly when o is not past the last zero,
-    // so one search does for all, however many names share a long string.
-    let last_zero = data.iter().rposition(|byte| *byte == 0);
-    let good = |o: u32| o == 0 || last_zero.is_some_and(|zero| o as usize <= zero);
+    let references = References::of(data);
     for i in 0..count {
-        if !good(number4(data, first + ELEMENT * i + 4)) {
-            return Err(refusal_at(45, i));
+        let o = name_offset(data, first, i);
+        match references.to(o) {
+            // No name at all.
+            _ if o == 0 => (),
+            Reference::NoZero => return Err(refusal_at(45, i)),
+            Reference::IllFormed => return Err(refusal_at(52, i)),
+            Reference::Good => (),
         }
     }
     Ok(Signature { count, data, first })
 }
 
 /// An element by itself, whatever the others are: 43, 26, 44 for its own bytes,
-/// 45 for its own name.
+/// 45 and 52 for its own name.
 pub fn signature_element(data: &[u8], i: usize) -> Result<SignatureElement<'_>, Refusal> {
     let (count, first) = header(data)?;
     if i as u64 >= count {
@@ -155,11 +174,11 @@ pub fn signature_element(data: &[u8], i: usize) -> Result<SignatureElement<'_>, 
     if at + ELEMENT as u64 > data.len() as u64 {
         return Err(refusal(44));
     }
-    SignatureElement::read(data, at as usize).ok_or(refusal_at(45, i))
+    SignatureElement::read(data, at as usize, i)
 }
 
 /// The report on a part of a container: what opening it refuses (25, 1 to 24),
-/// then 26, then 43 to 45.
+/// then 26, then 43 to 45 and 52.
 pub fn signature_report(
     bytes: &[u8],
     edition: usize,
@@ -196,10 +215,10 @@ pub(crate) fn difference(
     signature: &Signature,
 ) -> Option<usize> {
     let list = part.list(&opening.runtime);
-    (0..signature.count).find(|i| match (signature.name(*i), list.clone().nth(*i)) {
+    (0..signature.count).find(|i| match (signature.name_bytes(*i), list.clone().nth(*i)) {
         // Without a name there is nothing to compare.
-        (Err(_), _) => false,
-        (Ok(_), None) => true,
-        (Ok(name), Some(beside)) => opening.string(beside) != Ok(name),
+        (None, _) => false,
+        (Some(_), None) => true,
+        (Some(name), Some(beside)) => opening.string_bytes(beside) != Ok(name),
     })
 }

@@ -107,7 +107,7 @@ fn older_and_newer_readers() {
 #[test]
 fn accepted_data_is_what_the_layout_puts_there() {
     let mut random = Random(0xfeed_beef_0bad_cafe);
-    let (mut accepted, mut whole, mut empty) = (0, 0, 0);
+    let (mut accepted, mut whole, mut empty, mut longer) = (0, 0, 0, 0);
     for _ in 0..40_000 {
         let mut data = made(&mut random).bytes();
         if random.one_in(3) {
@@ -158,7 +158,8 @@ fn accepted_data_is_what_the_layout_puts_there() {
                 assert!(o < t);
                 let string = &data[strings + o..strings + t];
                 let end = string.iter().position(|byte| *byte == 0).expect("a zero at o or later");
-                assert_eq!(opening.string(i), Ok(&string[..end]));
+                assert_eq!(opening.string(i), Ok(text(&string[..end])));
+                longer += usize::from(text(&string[..end]).points < end);
                 let r = number(at + i * record + 4);
                 let rows = usize::from(data[at + i * record + 8]);
                 assert!(r + rows <= n);
@@ -180,6 +181,7 @@ fn accepted_data_is_what_the_layout_puts_there() {
     assert!(accepted > 20_000, "{accepted} accepted");
     assert!(whole > 2_000, "{whole} arrays of several numbers end with the table");
     assert!(empty > 2_000, "{empty} empty arrays at the table's end");
+    assert!(longer > 2_000, "{longer} names with fewer code points than bytes");
 }
 
 #[test]

@@ -47,7 +47,7 @@ fn box_c_shows_main() {
     assert_eq!(bytes.len(), 136);
     let opening = open(&bytes, 3).unwrap();
     assert_eq!((opening.file_edition, opening.edition_read), (3, 3));
-    assert_eq!(opening.entry_name(), Ok(&b"main"[..]));
+    assert_eq!(opening.entry_name(), Ok(text(b"main")));
     assert_eq!(opening.runtime.stage, Some(5));
     assert_eq!(opening.runtime.entry_name_offset, Some(1));
     let opening = open(&bytes, 1).unwrap();
@@ -60,13 +60,13 @@ fn box_c_shows_main() {
 fn box_c_with_other_offsets() {
     let mut psv0 = box_c();
     psv0.runtime[48] = 5;
-    opened(&psv0, 3, |opening| assert_eq!(opening.entry_name(), Ok(&b""[..])));
+    opened(&psv0, 3, |opening| assert_eq!(opening.entry_name(), Ok(text(b""))));
     psv0.runtime[48] = 0;
-    opened(&psv0, 3, |opening| assert_eq!(opening.entry_name(), Ok(&b""[..])));
+    opened(&psv0, 3, |opening| assert_eq!(opening.entry_name(), Ok(text(b""))));
     psv0.runtime[48] = 3;
-    opened(&psv0, 3, |opening| assert_eq!(opening.entry_name(), Ok(&b"in"[..])));
+    opened(&psv0, 3, |opening| assert_eq!(opening.entry_name(), Ok(text(b"in"))));
     psv0.runtime[48] = 7;
-    opened(&psv0, 3, |opening| assert_eq!(opening.entry_name(), Ok(&b""[..])));
+    opened(&psv0, 3, |opening| assert_eq!(opening.entry_name(), Ok(text(b""))));
     psv0.runtime[48] = 8;
     refuses(&psv0.bytes(), 3, 24, 0);
     for edition in 0..3 {
@@ -83,7 +83,7 @@ fn box_c_with_a_longer_record() {
     assert_eq!(shader(&psv0.bytes()).len(), 140);
     opened(&psv0, 3, |opening| {
         assert_eq!(opening.file_edition, 3);
-        assert_eq!(opening.entry_name(), Ok(&b"main"[..]));
+        assert_eq!(opening.entry_name(), Ok(text(b"main")));
         assert_eq!(opening.handed.runtime.len(), 52);
         assert_eq!(opening.layout.runtime_size, 56);
     });
@@ -163,7 +163,7 @@ fn no_edition_is_edition_three() {
     let data = hull().bytes();
     let file = shader(&data);
     for opening in [open_psv0_default(&data).unwrap(), open_default(&file).unwrap()] {
-        assert_eq!(opening.entry_name(), Ok(&b"main"[..]));
+        assert_eq!(opening.entry_name(), Ok(text(b"main")));
         let resource = opening.resource(1).unwrap();
         assert_eq!((resource.kind, resource.flags), (Some(50), Some(60)));
     }
@@ -175,7 +175,7 @@ fn box_c_where_no_edition_is_named() {
     let bytes = shader(&psv0.bytes());
     let opening = open_default(&bytes).unwrap();
     assert_eq!((opening.file_edition, opening.edition_read), (3, 3));
-    assert_eq!(opening.entry_name(), Ok(&b"main"[..]));
+    assert_eq!(opening.entry_name(), Ok(text(b"main")));
     // Who relied on edition 1 has to name it now.
     psv0.runtime[48] = 8;
     let data = psv0.bytes();
@@ -518,7 +518,9 @@ fn references_at_their_bounds() {
     for (o, string) in expected.iter().enumerate() {
         psv0.elements[0] = o as u8;
         match string {
-            Some(string) => opened(&psv0, 1, |opening| assert_eq!(opening.string(0), Ok(*string))),
+            Some(string) => {
+                opened(&psv0, 1, |opening| assert_eq!(opening.string(0), Ok(text(string))))
+            }
             None => refuses(&psv0.bytes(), 1, 22, 0),
         }
     }
@@ -528,7 +530,7 @@ fn references_at_their_bounds() {
         psv0.runtime[48] = o as u8;
         match string {
             Some(string) => {
-                opened(&psv0, 3, |opening| assert_eq!(opening.entry_name(), Ok(*string)))
+                opened(&psv0, 3, |opening| assert_eq!(opening.entry_name(), Ok(text(string))))
             }
             None => refuses(&psv0.bytes(), 3, 24, 0),
         }
@@ -888,9 +890,9 @@ fn element_records_are_stepped_by_the_stated_size() {
                 let third = opening.element(2).unwrap();
                 assert_eq!((third.rows, third.start_row, third.reserved), (3, 255, 255));
                 assert_eq!((third.columns, third.start_column, third.allocated), (15, 3, 1));
-                assert_eq!(opening.string(0), Ok(&b"POS"[..]));
-                assert_eq!(opening.string(1), Ok(&b"B"[..]));
-                assert_eq!(opening.string(2), Ok(&b""[..]));
+                assert_eq!(opening.string(0), Ok(text(b"POS")));
+                assert_eq!(opening.string(1), Ok(text(b"B")));
+                assert_eq!(opening.string(2), Ok(text(b"")));
                 assert_eq!(opening.array(0), Ok(vec![71, 72, 73]));
                 assert_eq!(opening.array(1), Ok(vec![]));
                 assert_eq!(opening.array(2), Ok(vec![73, 74, 75]));

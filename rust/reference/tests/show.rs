@@ -132,18 +132,18 @@ threads_x unset
 threads_y unset
 threads_z unset
 entry_name_offset 1
-entry_name \"main\"
+entry_name \"main\" points 4
 resources 2
 resource 0 type 1 space 2 lower 3 upper 4 kind 5 flags 6
 resource 1 type 10 space 20 lower 30 upper 40 kind 50 flags 60
 strings 16
 indices 6
 elements 3
-element 0 name \"POS\" indices [71 72 73] name_offset 6 index_reference 1 rows 3 start_row 2 columns 3 \
+element 0 name \"POS\" points 3 indices [71 72 73] name_offset 6 index_reference 1 rows 3 start_row 2 columns 3 \
 start_column 2 allocated 1 semantic 4 component 5 interpolation 6 dynamic_mask 15 stream 3 reserved 7
-element 1 name \"B\" indices [] name_offset 10 index_reference 6 rows 0 start_row 0 columns 4 \
+element 1 name \"B\" points 1 indices [] name_offset 10 index_reference 6 rows 0 start_row 0 columns 4 \
 start_column 1 allocated 0 semantic 0 component 0 interpolation 0 dynamic_mask 1 stream 2 reserved 0
-element 2 name \"\" indices [73 74 75] name_offset 0 index_reference 3 rows 3 start_row 255 columns 15 \
+element 2 name \"\" points 0 indices [73 74 75] name_offset 0 index_reference 3 rows 3 start_row 255 columns 15 \
 start_column 3 allocated 1 semantic 255 component 255 interpolation 255 dynamic_mask 15 stream 3 \
 reserved 255
 mask 0 {}
@@ -161,16 +161,16 @@ program version 6 5 stage 3 words 7
 bitcode version 1 7 offset 16 size 3
 stages equal
 signature ISG1 elements 3
-signature ISG1 0 name \"POS\" name_offset 104 index 2 stream 1 system_value 3 component 4 register 5 \
+signature ISG1 0 name \"POS\" points 3 name_offset 104 index 2 stream 1 system_value 3 component 4 register 5 \
 mask 6 exclusive_mask 7 precision 8
 signature ISG1 1 name unset name_offset 0 index 4294967295 stream 4294967295 system_value 4294967295 \
 component 4294967295 register 4294967295 mask 255 exclusive_mask 255 precision 4294967295
-signature ISG1 2 name \"S\" name_offset 106 index 2 stream 1 system_value 3 component 4 register 5 \
+signature ISG1 2 name \"S\" points 1 name_offset 106 index 2 stream 1 system_value 3 component 4 register 5 \
 mask 6 exclusive_mask 7 precision 8
 signature ISG1 first_difference 2
 signature OSG1 refused 43 0
 signature PSG1 elements 2
-signature PSG1 0 name \"\" name_offset 75 index 2 stream 1 system_value 3 component 4 register 5 \
+signature PSG1 0 name \"\" points 0 name_offset 75 index 2 stream 1 system_value 3 component 4 register 5 \
 mask 6 exclusive_mask 7 precision 8
 signature PSG1 1 name unset name_offset 0 index 2 stream 1 system_value 3 component 4 register 5 \
 mask 6 exclusive_mask 7 precision 8
@@ -190,7 +190,7 @@ root_signature refused 26 0
     let first = expected
         .replace("read 3", "read 1")
         .replace("entry_name_offset 1", "entry_name_offset unset")
-        .replace("entry_name \"main\"", "entry_name unset")
+        .replace("entry_name \"main\" points 4", "entry_name unset")
         .replace("kind 5 flags 6\n", "kind unset flags unset\n")
         .replace("kind 50 flags 60\n", "kind unset flags unset\n");
     assert_eq!(show(&bytes, 1), first);
@@ -276,12 +276,12 @@ root_signature refused 26 0
     let mut quoted = words(&[1, 8]);
     quoted.extend(vec![0; 32]);
     put4(&mut quoted, 12, 40);
-    quoted.extend_from_slice(b" ~\"\\a\x1f\x7f\x80\xff\n\0\0");
+    quoted.extend_from_slice(b" ~\"\\a\x1f\x7f\xc2\x80\xe2\x82\xac\n\0\0\0");
     assert_eq!(
         lines([None, Some(&quoted), None]),
         r#"signature ISG1 refused 26 0
 signature OSG1 elements 1
-signature OSG1 0 name " ~\x22\x5ca\x1f\x7f\x80\xff\x0a" name_offset 40 index 0 stream 0 system_value 0 component 0 register 0 mask 0 exclusive_mask 0 precision 0
+signature OSG1 0 name " ~\x22\x5ca\x1f\x7f\xc2\x80\xe2\x82\xac\x0a" points 10 name_offset 40 index 0 stream 0 system_value 0 component 0 register 0 mask 0 exclusive_mask 0 precision 0
 signature OSG1 first_difference 0
 signature PSG1 refused 26 0
 root_signature refused 26 0
@@ -292,11 +292,11 @@ root_signature refused 26 0
 #[test]
 fn strings_are_quoted() {
     let mut psv0 = box_c();
-    psv0.strings = b" ~\"\\a\x1f\x7f\x80\xff\n\0\0".to_vec();
+    psv0.strings = b" ~\"\\a\x1f\x7f\xc2\x80\xe2\x82\xac\n\0\0\0".to_vec();
     psv0.runtime[48] = 0;
     let text = show(&shader(&psv0.bytes()), 3);
     let line = text.lines().find(|line| line.starts_with("entry_name ")).unwrap();
-    assert_eq!(line, r#"entry_name " ~\x22\x5ca\x1f\x7f\x80\xff\x0a""#);
+    assert_eq!(line, r#"entry_name " ~\x22\x5ca\x1f\x7f\xc2\x80\xe2\x82\xac\x0a" points 10"#);
 }
 
 #[test]

@@ -1,4 +1,4 @@
-//! The signature parts: refusals 43 to 45, fields, names, an element by itself,
+//! The signature parts: refusals 43 to 45 and 52, fields, names, an element by itself,
 //! the report on a container, and the names beside those of PSV0.
 
 mod common;
@@ -7,6 +7,7 @@ use reference::{
     first_difference, open, signature, signature_element, signature_report, table_part,
     SignatureElement, SignaturePart,
 };
+use std::collections::BTreeMap;
 use std::path::Path;
 
 const PARTS: [SignaturePart; 3] = SignaturePart::ALL;
@@ -14,7 +15,7 @@ const PARTS: [SignaturePart; 3] = SignaturePart::ALL;
 /// An element with the name offset; its other fields differ from one another.
 fn record(name: u32) -> Vec<u8> {
     let mut record = words(&[1, name, 3, 4, 5, 6]);
-    record.extend_from_slice(&[7, 8, 0xee, 0xef]);
+    record.extend_from_slice(&[7, 8, 0xc3, 0xa9]);
     record.extend(words(&[9]));
     record
 }
@@ -82,12 +83,12 @@ fn accepts(data: &[u8], names: &[Option<&[u8]>]) {
     assert_eq!(alone.count, names.len());
     for (i, name) in names.iter().enumerate() {
         let element = alone.element(i).unwrap();
-        assert_eq!(element.name, *name, "element {i}");
-        assert_eq!(alone.name(i), name.ok_or(reference::Refusal { number: 26, place: 0 }));
+        assert_eq!(element.name, name.map(text), "element {i}");
+        assert_eq!(alone.name(i), name.map_or(refused(26, 0), |name| Ok(text(name))));
         assert_eq!(signature_element(data, i), Ok(element));
         if let Some(name) = name {
             let view = data[element.name_offset as usize..].as_ptr();
-            assert_eq!(element.name.unwrap().as_ptr(), view, "a view of the data");
+            assert_eq!(element.name.unwrap().bytes.as_ptr(), view, "a view of the data");
             assert_eq!(data[element.name_offset as usize + name.len()], 0);
         }
     }
@@ -207,7 +208,7 @@ fn an_offset_below_8() {
             (0..4).map(|k| u32::from(zeros[at + k]) << (8 * k)).sum::<u32>()
         };
         assert_eq!((element.stream, element.name_offset), (number(0), number(4)));
-        accepts(&zeros, &[element.name]);
+        accepts(&zeros, &[element.name.map(|name| name.bytes)]);
         refuses(&data(1, offset, &[0; 40])[..offset as usize + 31], 44, 0);
     }
     // At 0 the stream is the count, and the name offset the first offset: 0.
@@ -239,7 +240,7 @@ fn every_field() {
         mask: 0x19,
         exclusive_mask: 0x1a,
         precision: 0x201f_1e1d,
-        name: Some(b"Name"),
+        name: Some(text(b"Name")),
     };
     assert_eq!(signature(&whole).unwrap().element(0), Ok(expected));
     accepts(&whole, &[Some(b"Name")]);
@@ -296,8 +297,8 @@ fn the_end_of_a_name() {
     // The first of several zeros ends it.
     accepts(&at(40, b"A\0B\0\0"), &[Some(b"A")]);
     accepts(&at(42, b"A\0B\0\0"), &[Some(b"B")]);
-    // Any byte but zero is of the name.
-    let all: Vec<u8> = (1..=255).collect();
+    // Any byte of ASCII but zero is of the name.
+    let all: Vec<u8> = (1..128).collect();
     let mut strings = all.clone();
     strings.push(0);
     accepts(&at(40, &strings), &[Some(&all)]);
@@ -329,8 +330,8 @@ fn a_name_in_the_header_or_an_element() {
         (16, b"\x03"),
         (28, b"\x06"),
         // The masks, the unused bytes and the precision.
-        (32, b"\x07\x08\xee\xef\x09"),
-        (34, b"\xee\xef\x09"),
+        (32, b"\x07\x08\xc3\xa9\x09"),
+        (34, b"\xc3\xa9\x09"),
         (36, b"\x09"),
         (39, b""),
     ] {
@@ -342,6 +343,8 @@ fn a_name_in_the_header_or_an_element() {
             refuses(&whole, 45, 0);
         }
     }
+    // In the middle of a sequence.
+    refuses(&named(&[35], b""), 52, 0);
     // From an element into the strings.
     let mut whole = data(1, 8, &[1; 33]);
     put4(&mut whole, 12, 16);
@@ -396,7 +399,7 @@ fn an_element_by_itself() {
     let mut whole = named(&[1, u32::MAX, 1], b"");
     whole.pop();
     assert_eq!(signature(&whole), refused(44, 0));
-    assert_eq!(signature_element(&whole, 0).unwrap().name, Some(&b""[..]));
+    assert_eq!(signature_element(&whole, 0).unwrap().name, Some(text(b"")));
     assert_eq!(signature_element(&whole, 1), refused(45, 1));
     assert_eq!(signature_element(&whole, 2), refused(44, 0));
     assert_eq!(signature_element(&whole, 3), refused(26, 0));
@@ -447,7 +450,8 @@ fn one_long_string_for_all() {
     *whole.last_mut().unwrap() = 0;
     let read = signature(&whole).unwrap();
     assert_eq!(read.count, count);
-    assert_eq!(read.name(count - 1).unwrap().len(), (8 << 20) - 1);
+    let name = read.name(count - 1).unwrap();
+    assert_eq!((name.bytes.len(), name.points), ((8 << 20) - 1, (8 << 20) - 1));
     put4(&mut whole, 8 + 32 * (count - 1) + 4, at + (8 << 20));
     assert_eq!(signature(&whole), refused(45, count - 1));
 }
@@ -493,8 +497,8 @@ fn the_name_beside() {
         };
         let (a, ab, b, empty) = (&b"A"[..], &b"AB"[..], &b"B"[..], &b""[..]);
         // Equal, a prefix, longer, different, empty.
-        for ours in [a, ab, b, empty, b"a", b"A\xff"] {
-            for theirs in [a, ab, b, empty, b"a", b"A\xff"] {
+        for ours in [a, ab, b, empty, b"a", b"A\xc3\xbf"] {
+            for theirs in [a, ab, b, empty, b"a", b"A\xc3\xbf"] {
                 let expected = if ours == theirs { None } else { Some(0) };
                 assert_eq!(with_list(&[Some(ours)], &[theirs]), (expected, Some(0)));
             }
@@ -575,7 +579,10 @@ fn a_file_of_edition_zero() {
         let bytes = with(&with_names(&[None, Some(b"A")]), &Psv0::of_size(size));
         for edition in 0..=3 {
             for part in PARTS {
-                assert_eq!(signature_report(&bytes, edition, part).unwrap().name(1), Ok(&b"A"[..]));
+                assert_eq!(
+                    signature_report(&bytes, edition, part).unwrap().name(1),
+                    Ok(text(b"A"))
+                );
                 assert_eq!(first_difference(&bytes, edition, part), Ok(Some(1)));
             }
         }
@@ -681,7 +688,9 @@ fn expected(data: &[u8]) -> Result<Vec<Option<&[u8]>>, (u8, usize)> {
             }
             let end = (name..data.len() as u128).find(|at| data[*at as usize] == 0);
             let end = end.ok_or((45, i as usize))?;
-            Ok(Some(&data[name as usize..end as usize]))
+            let name = &data[name as usize..end as usize];
+            std::str::from_utf8(name).or(Err((52, i as usize)))?;
+            Ok(Some(name))
         })
         .collect()
 }
@@ -689,15 +698,14 @@ fn expected(data: &[u8]) -> Result<Vec<Option<&[u8]>>, (u8, usize)> {
 #[test]
 fn any_bytes_get_one_answer() {
     let mut random = Random(0x1122_3344_5566_7788);
-    let mut reached = [0; 4];
+    let mut reached: BTreeMap<u8, usize> = BTreeMap::new();
+    let mut longer = 0;
     for _ in 0..200_000 {
         let length = if random.one_in(16) { random.below(9) } else { random.below(160) };
-        let mut data = random.bytes(length);
-        // Zeros are rare among random bytes.
-        for byte in &mut data {
-            if random.one_in(20) {
-                *byte = 0;
-            }
+        let mut data = strings(&mut random, length, b"abc");
+        // At times without a zero at the end.
+        if length > 0 && random.one_in(2) {
+            data[length - 1] = b'x';
         }
         if length >= 8 {
             let count = random.pick(&[0, 1, 2, 3, 3, 4]);
@@ -727,32 +735,35 @@ fn any_bytes_get_one_answer() {
                 assert_eq!(read.count, names.len());
                 for (i, name) in names.iter().enumerate() {
                     let element = read.element(i).unwrap();
-                    assert_eq!(element.name, *name);
-                    assert_eq!(read.name(i).ok(), *name);
+                    assert_eq!(element.name, name.map(text));
+                    assert_eq!(read.name(i).ok(), name.map(text));
                     assert_eq!(signature_element(&data, i), Ok(element));
+                    longer += usize::from(name.is_some_and(|name| text(name).points < name.len()));
                 }
                 assert_eq!(read.element(names.len()), refused(26, 0));
                 assert_eq!(signature_element(&data, names.len()), refused(26, 0));
-                42
+                0
             }
         };
-        reached[usize::from(which - 42)] += 1;
-        if which == 45 {
+        *reached.entry(which).or_default() += 1;
+        if which == 45 || which == 52 {
             let place = read.unwrap_err().place;
-            assert_eq!(signature_element(&data, place), refused(45, place));
+            assert_eq!(signature_element(&data, place), refused(which, place));
             for i in 0..place {
                 assert_eq!(answer(signature_element(&data, i)), Ok(()));
             }
         }
     }
-    assert!(reached.iter().all(|count| *count > 2_000), "{reached:?}");
+    assert!(reached.keys().eq(&[0, 43, 44, 45, 52]), "{reached:?}");
+    assert!(reached.values().all(|count| *count > 2_000), "{reached:?}");
+    assert!(longer > 2_000, "{longer} names with fewer code points than bytes");
 }
 
 #[test]
 fn malformed_signatures_of_llvm() {
     // Ten elements, of which one fits; one element whose offset is the strings'.
     let directory = Path::new(env!("CARGO_MANIFEST_DIR")).join("../../tests/vectors/llvm");
-    for (number, first) in [(0, Ok(Some(&b"AAA"[..]))), (1, refused(44, 0))] {
+    for (number, first) in [(0, Ok(Some(text(b"AAA")))), (1, refused(44, 0))] {
         let file = format!("llvm19_unit_MalformedSignature_{number}_refit.bin");
         let bytes = std::fs::read(directory.join(file)).expect("the vectors are there");
         // Without a DXIL part it doesn't open, but it has a table.
@@ -788,7 +799,7 @@ fn real_shaders() {
                 let report = signature_report(&bytes, edition, part).unwrap();
                 assert_eq!(report.count, names.len());
                 for (i, name) in names.iter().enumerate() {
-                    assert_eq!(report.name(i), Ok(name.as_bytes()), "{file}");
+                    assert_eq!(report.name(i), Ok(text(name.as_bytes())), "{file}");
                     let element = report.element(i).unwrap();
                     assert_eq!((element.index, element.component), (0, 3), "{file}");
                     assert_eq!(element.register as usize, i, "{file}");

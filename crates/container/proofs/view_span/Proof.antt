@@ -18,10 +18,14 @@ moved-requires : tie.Need-moved-requires
 moved-requires c κs = start-short _ _ (c .before .before .before .before .find-psv0 .ensures) (c .before .before .enum-told .given .1) refl (c .view-span .ensures)
 
 returns : tie.Need-returns
-returns c = no-view _ _ (c .before .before .before .before .find-psv0 .ensures) (c .before .before .v .given .1) _ (c .refused-span .ensures)
+returns c =
+    let f = c .before .before .before .before in
+    no-view _ _ (f .find-psv0 .ensures) (c .before .before .v .given .1) (f .before .before .args .view) (c .refused-span .ensures)
 
 returns-2 : tie.Need-returns-2
-returns-2 c = view-shows _ _ (c .before .before .before .before .before .find-psv0 .ensures) (c .before .before .before .enum-told .given .1) refl _ (c .before .view-span .ensures) (c .moved .ensures)
+returns-2 c =
+    let f = c .before .before .before .before .before in
+    view-shows _ _ (f .find-psv0 .ensures) (c .before .before .before .enum-told .given .1) refl (f .before .before .args .view) (c .before .view-span .ensures) (c .moved .ensures)
 
 pub view-span-spec : {M : Type 1} → statement M
 view-span-spec =

@@ -26,7 +26,7 @@ returns-2 c =
     let u = b .before in
     let s = u .before .before .before .before .before in
     let h = u .before .before .if1 .left in
-    element-shows (s .pre) (s .args .i) (c .accepted-span .result) _ h
+    element-shows (s .pre) (s .args .i) (c .accepted-span .result) _ _ h
     (rw (c .accepted-span .ensures) (array-read (s .pre) (s .args .i) h _ _ (u .before .element-row .ensures) (u .u32-at .ensures) (b .byte-at .ensures)))
 
 pub element-array-spec : {M : Type 1} → statement M

@@ -10,21 +10,22 @@ use Rattle.wire.specs.declared.Verdict.the-variants.{Accepted}
 use Rattle.psv0_layout.specs.Judged.{elementJudged}
 use Rattle.psv0_layout.specs.Layout.{Body, rows}
 use Rattle.psv0_layout.specs.Position.{Judging}
-use Rattle.psv0_layout.proofs.Judgements.{stays-inside, name-22, index-23, element-passes, elements-pass}
+use Rattle.psv0_layout.proofs.Judgements.{stays-inside, name-22, ill-22, index-23, element-passes, elements-pass}
 use Rattle.psv0_sections.proofs.judge_elements.Statement.{statement}
 use Rattle.psv0_sections.proofs.judge_elements.Tie as tie
 
 abbrev Inv-loop : tie.InvT-loop
-Inv-loop end indices e stride count i₀ at₀ i at =
+Inv-loop end ill indices e stride count i₀ at₀ i at =
     (i ≤ count)
+    × (i ≤ ill)
     × (at ≡ i * stride)
-    × ((b : Body) → Judging b end indices (rows 16 count stride e) → each (elementJudged (b .strings) (b .indices) (b .elements)) i ≡ Accepted)
+    × ((b : Body) → Judging b end ill indices (rows 16 count stride e) → each (elementJudged (b .strings) (b .indices) (b .elements)) i ≡ Accepted)
 
 abbrev μ-loop : tie.MeasureT-loop
-μ-loop end indices e stride count i₀ at₀ i at = count - i
+μ-loop end ill indices e stride count i₀ at₀ i at = count - i
 
 loop-holds : tie.Need-loop-holds Inv-loop μ-loop
-loop-holds c = (search needs, sym (zero-mul _), λ b j. unfold each in refl)
+loop-holds c = (search needs, omega arith, sym (zero-mul _), λ b j. unfold each in refl)
 
 -- element i, with the bytes that are known of it, ends inside
 inside : (n : tie.In-loop Inv-loop μ-loop)
@@ -35,7 +36,7 @@ inside n =
     let l = n .before .loop in
     let end = stays-inside (l .i) (s .args .count) (s .args .stride) (length (s .args .e .now)) (n .loop-test .taken) (s .pre .0) in
     let known = s .pre .1 (omega (arith, n .loop-test .taken)) in
-    (omega (arith, l .inv .1), omega (arith, l .inv .1))
+    (omega (arith, l .inv .2), omega (arith, l .inv .2))
 
 add-known : tie.Need-add-known Inv-loop μ-loop
 add-known n = omega (arith, inside n .0)
@@ -47,40 +48,50 @@ returns : tie.Need-returns Inv-loop μ-loop
 returns c =
     let n = c .before .before .before in
     let l = n .before .loop in
-    λ b j. name-22 _ _ _ _ _ b j _ _ _ (n .loop-test .taken) (l .inv .1) (c .before .u32-at .ensures) (l .inv .2 b j) (c .if1 .taken)
+    λ b j. name-22 _ _ _ _ _ _ b j _ _ _ (n .loop-test .taken) (l .inv .2) (c .before .u32-at .ensures) (l .inv .3 b j) (l .inv .1) (c .if1 .taken)
 
 returns-2 : tie.Need-returns-2 Inv-loop μ-loop
 returns-2 c =
+    let u = c .before .before in
+    let n = u .before .before in
+    let l = n .before .loop in
+    λ b j. ill-22 _ _ _ _ _ _ b j _ _ _ (n .loop-test .taken) (l .inv .2) (u .u32-at .ensures) (l .inv .3 b j) (c .before .if1 .left) (c .if2 .taken)
+
+returns-3 : tie.Need-returns-3 Inv-loop μ-loop
+returns-3 c =
     let v = c .before .before in
-    let t = v .before in
+    let g = v .before in
+    let t = g .before in
     let n = t .before .before .before in
     let l = n .before .loop in
     λ b j.
-    index-23 _ _ _ _ _ b j _ _ _ (n .loop-test .taken) (l .inv .1) (t .before .u32-at .ensures) (l .inv .2 b j) (t .if1 .left) _ _
-    (v .u32-at2 .ensures) (c .before .byte-at .ensures) (c .if2 .taken)
+    index-23 _ _ _ _ _ _ b j _ _ _ (n .loop-test .taken) (l .inv .2) (t .before .u32-at .ensures) (l .inv .3 b j) (t .if1 .left) (l .inv .1)
+    (g .if2 .left) _ _ (v .u32-at2 .ensures) (c .before .byte-at .ensures) (c .if3 .taken)
 
 add-at : tie.Need-add-at Inv-loop μ-loop
-add-at c = omega (arith, inside (c .before .before .before .before .before .before) .1)
+add-at c = omega (arith, inside (c .before .before .before .before .before .before .before) .1)
 
 loop-again : tie.Need-loop-again Inv-loop μ-loop
 loop-again c =
     let v = c .before .before in
-    let t = v .before in
+    let g = v .before in
+    let t = g .before in
     let n = t .before .before .before in
     let l = n .before .loop in (
       omega (arith, n .loop-test .taken),
-      simp (add-one, suc-mul, l .inv .1),
+      omega (arith, l .inv .1, g .if2 .left),
+      simp (add-one, suc-mul, l .inv .2),
       λ b j.
-          element-passes _ _ _ _ _ b j _ _ _ (n .loop-test .taken) (l .inv .1) (t .before .u32-at .ensures) (l .inv .2 b j) (t .if1 .left) _ _
-          (v .u32-at2 .ensures) (c .before .byte-at .ensures) (c .if2 .left),
+          element-passes _ _ _ _ _ _ b j _ _ _ (n .loop-test .taken) (l .inv .2) (t .before .u32-at .ensures) (l .inv .3 b j) (t .if1 .left) (l .inv .1)
+          (g .if2 .left) _ _ (v .u32-at2 .ensures) (c .before .byte-at .ensures) (c .if3 .left),
     )
 
-returns-3 : tie.Need-returns-3 Inv-loop μ-loop
-returns-3 c =
+returns-4 : tie.Need-returns-4 Inv-loop μ-loop
+returns-4 c =
     let l = c .before .loop in
     let s = c .before .before .before in
     let q : s .args .count ≡ l .i = omega (arith, l .inv .0, c .loop-test .left) in
-    λ b j. elements-pass _ _ _ _ _ b j _ q (l .inv .2 b j)
+    λ b j. elements-pass _ _ _ _ _ _ b j _ q (l .inv .3 b j)
 
 pub judge-elements-spec : {M : Type 1} → statement M
 judge-elements-spec =
@@ -96,14 +107,15 @@ judge-elements-spec =
     (λ c κs. search needs)
     (λ c. search needs)
     returns
-    (λ c κs. search needs)
-    (λ c. search needs)
-    (λ c κs. search needs)
-    (λ c. search needs)
-    (λ c. search needs)
     returns-2
+    (λ c κs. search needs)
+    (λ c. search needs)
+    (λ c κs. search needs)
+    (λ c. search needs)
+    (λ c. search needs)
+    returns-3
     (λ c. search needs)
     add-at
     (λ c. search needs)
     loop-again
-    returns-3)
+    returns-4)

@@ -1,7 +1,14 @@
-use Rattle.signature_layout.proofs.Steps.{answer-is}
+use Rattle.signature_layout.proofs.Steps.{answer-good, answer-is}
 use borrow.Author.Needs.{needs}
 use Rattle.signature.proofs.answer_at.Statement.{statement}
 use Rattle.signature.proofs.answer_at.Tie as tie
+
+name-at-requires : tie.Need-name-at-requires
+name-at-requires c κs =
+    let f = c .before in
+    let u = f .before .before in
+    let s = u .before .before in
+    answer-good (s .args .d .now) (s .args .i) (u .u32-at .ensures) (f .fields .ensures) (s .pre .1)
 
 returns : tie.Need-returns
 returns c =
@@ -22,5 +29,5 @@ answer-at-spec =
     (λ c. search needs)
     (λ c κs. search needs)
     (λ c. search needs)
-    (λ c κs. search needs)
+    name-at-requires
     returns)

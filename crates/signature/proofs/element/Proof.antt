@@ -1,5 +1,5 @@
 use mathlib.Core.Path.{_∙_}
-use Rattle.signature_layout.proofs.Signatures.{refused-whole, none-there, shown-there, there-inside}
+use Rattle.signature_layout.proofs.Signatures.{refused-whole, none-there, shown-there, there-inside, there-good}
 use borrow.Author.Needs.{needs}
 use Rattle.signature.proofs.element.Statement.{statement}
 use Rattle.signature.proofs.element.Tie as tie
@@ -11,8 +11,10 @@ returns c =
 
 answer-at-requires : tie.Need-answer-at-requires
 answer-at-requires c κs =
-    let n = c .before in
-    there-inside _ _ (n .before .before .before .judge .ensures) (n .before .enum-told .given .1) (n .u32-at .ensures) (c .if1 .left)
+    let n = c .before in (
+      there-inside _ _ (n .before .before .before .judge .ensures) (n .before .enum-told .given .1) (n .u32-at .ensures) (c .if1 .left),
+      there-good _ _ (n .before .before .before .judge .ensures) (n .before .enum-told .given .1) (n .u32-at .ensures) (c .if1 .left),
+    )
 
 returns-2 : tie.Need-returns-2
 returns-2 c = c .refused .ensures ∙ refused-whole _ _ (c .before .before .before .before .judge .ensures) (c .before .before .v .given .1)

@@ -4,10 +4,10 @@ use borrow.Author.Needs.{needs}
 use Rattle.signature_report.proofs.moved_by.Statement.{statement}
 use Rattle.signature_report.proofs.moved_by.Tie as tie
 
-add-t9 : tie.Need-add-t9
-add-t9 c =
+add-at : tie.Need-add-at
+add-at c =
     let n = c .before .before in
-    omega (arith, n .before .before .pre _ _ (n .name .given .1))
+    omega (arith, n .before .before .pre _ _ _ (n .name .given .1))
 
 returns : tie.Need-returns
 returns c = stays _ _ (c .enum-told .given .1)
@@ -21,6 +21,6 @@ pub moved-by-spec : {M : Type 1} → statement M
 moved-by-spec = tie.close (tie.spec
     (λ c. search needs)
     (λ c. search needs)
-    add-t9
+    add-at
     returns
     returns-2)

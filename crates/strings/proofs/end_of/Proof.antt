@@ -1,7 +1,7 @@
 use native.Mathlib.Omega.{arith}
 use borrow.Author.Needs.{needs}
 use lib.ListN.{length}
-use Rattle.psv0_layout.proofs.References.{noZero-begin, lastZero-none}
+use Rattle.psv0_layout.proofs.References.{whole-slice, noZero-begin, lastZero-none}
 use Rattle.psv0_layout.proofs.Judgements.{zero-found}
 use Rattle.strings.proofs.end_of.Statement.{statement}
 use Rattle.strings.proofs.end_of.Tie as tie
@@ -14,6 +14,11 @@ returns-2 c =
     let t = c .before .before .before .before .args .t .now in
     zero-found t (length t) (omega arith) (noZero-begin t _) (omega arith) (c .if2 .taken)
 
+returns-3 : tie.Need-returns-3
+returns-3 c =
+    let t = c .before .before .before .before .before .before .args .t .now in
+    rw (whole-slice t) at (c .search-end .ensures)
+
 pub end-of-spec : {M : Type 1} → statement M
 end-of-spec =
     tie.close
@@ -22,5 +27,8 @@ end-of-spec =
     (λ c. search needs)
     (λ c. search needs)
     returns-2
+    (λ c. search needs)
+    (λ c. search needs)
+    (λ c. search needs)
     (λ c κs. search needs)
-    (λ c. search needs))
+    returns-3)

@@ -2,7 +2,8 @@
 //! generator of repeatable numbers.
 #![allow(dead_code)]
 
-use reference::Refusal;
+use reference::{Refusal, Text};
+use std::ops::RangeInclusive;
 use std::path::PathBuf;
 
 /// A refusal as the tests write it.
@@ -13,6 +14,12 @@ pub fn refused<T>(number: u8, place: usize) -> Result<T, Refusal> {
 /// Only the refusal of an answer, for comparing answers whose values can't be.
 pub fn answer<T>(result: Result<T, Refusal>) -> Result<(), Refusal> {
     result.map(|_| ())
+}
+
+/// The bytes as a lookup gives them; the code points are the standard library's.
+pub fn text(bytes: &[u8]) -> Text<'_> {
+    let points = std::str::from_utf8(bytes).expect("they are well formed").chars().count();
+    Text { bytes, points }
 }
 
 pub fn put4(bytes: &mut [u8], at: usize, number: u32) {
@@ -277,6 +284,68 @@ pub fn arrays_of(n: u32, place: usize, i: u32, rows: u8) -> Vec<Vec<u32>> {
     arrays
 }
 
+const TAIL: RangeInclusive<u8> = 0x80..=0xbf;
+
+/// The table of well-formed UTF-8 byte sequences once more.
+pub const ROWS: [&[RangeInclusive<u8>]; 9] = [
+    &[0x00..=0x7f],
+    &[0xc2..=0xdf, TAIL],
+    &[0xe0..=0xe0, 0xa0..=0xbf, TAIL],
+    &[0xe1..=0xec, TAIL, TAIL],
+    &[0xed..=0xed, 0x80..=0x9f, TAIL],
+    &[0xee..=0xef, TAIL, TAIL],
+    &[0xf0..=0xf0, 0x90..=0xbf, TAIL, TAIL],
+    &[0xf1..=0xf3, TAIL, TAIL, TAIL],
+    &[0xf4..=0xf4, 0x80..=0x8f, TAIL, TAIL],
+];
+
+/// Strings that aren't well formed, alone and with others around them.
+pub const ILL_FORMED: [&[u8]; 36] = [
+    // A byte that continues, with nothing before it.
+    b"\x80",
+    b"\xbf",
+    b"a\x80",
+    b"\xc3\xa9\xa9",
+    b"\xe2\x82\xac\x80",
+    b"\xf0\x9d\x84\x9e\x9e",
+    // Bytes that no row has.
+    b"\xc0",
+    b"\xc1",
+    b"\xf5",
+    b"\xf8\x88\x80\x80\x80",
+    b"\xfc\x84\x80\x80\x80\x80",
+    b"\xfe",
+    b"\xff",
+    b"\xf5\x80\x80\x80",
+    // Sequences cut before the zero, and before another.
+    b"\xc3",
+    b"\xe2",
+    b"\xe2\x82",
+    b"\xf0",
+    b"\xf0\x9d",
+    b"\xf0\x9d\x84",
+    b"main\xc3",
+    b"\xc3a",
+    b"\xe2\x82a",
+    b"\xf0\x9d\x84\xc3\xa9",
+    // Overlong: U+0000, U+002F, U+007F, U+07FF and U+FFFF in more bytes.
+    b"\xc0\x80",
+    b"\xc0\xaf",
+    b"\xc1\xbf",
+    b"\xe0\x80\xaf",
+    b"\xe0\x9f\xbf",
+    b"\xf0\x8f\xbf\xbf",
+    // Surrogates: U+D800, U+DFFF, and a pair as in CESU-8.
+    b"\xed\xa0\x80",
+    b"\xed\xbf\xbf",
+    b"\xed\xa0\xb4\xed\xb4\x9e",
+    // Above U+10FFFF.
+    b"\xf4\x90\x80\x80",
+    b"\xf4\xbf\xbf\xbf",
+    // As UTF-16 has it.
+    b"\xff\xfeA",
+];
+
 /// Repeatable numbers (xorshift with a multiplication at the end).
 pub struct Random(pub u64);
 
@@ -305,6 +374,63 @@ impl Random {
     }
 }
 
+/// A byte that the range has, mostly one of its ends.
+fn byte_of(random: &mut Random, range: &RangeInclusive<u8>) -> u8 {
+    let any = range.start() + random.below(range.len()) as u8;
+    random.pick(&[*range.start(), *range.end(), any])
+}
+
+/// A sequence of some row but the first.
+pub fn multibyte(random: &mut Random) -> Vec<u8> {
+    let row = random.pick(&ROWS[1..]);
+    row.iter().map(|range| byte_of(random, range)).collect()
+}
+
+/// Strings of so many bytes with a zero at their end: letters, zeros and sequences
+/// of several bytes, and at times something that isn't well formed.
+pub fn strings(random: &mut Random, length: usize, letters: &[u8]) -> Vec<u8> {
+    let mut strings = Vec::new();
+    while strings.len() < length {
+        match random.below(24) {
+            0 => strings.extend_from_slice(random.pick(&ILL_FORMED)),
+            1..=5 => strings.extend(multibyte(random)),
+            6..=9 => strings.push(0),
+            _ => strings.push(random.pick(letters)),
+        }
+    }
+    strings.truncate(length);
+    if let Some(last) = strings.last_mut() {
+        *last = 0;
+    }
+    strings
+}
+
+/// The places that a good reference may have, by the standard library.
+pub fn good_places(strings: &[u8]) -> Vec<usize> {
+    let good = |o: &usize| {
+        let length = strings[*o..].iter().position(|byte| *byte == 0);
+        length.is_some_and(|length| std::str::from_utf8(&strings[*o..o + length]).is_ok())
+    };
+    (0..strings.len()).filter(good).collect()
+}
+
+/// A place from which a string isn't well formed, at times one that is added.
+pub fn ill_formed_place(random: &mut Random, strings: &mut Vec<u8>) -> usize {
+    let last_zero = strings.iter().rposition(|byte| *byte == 0).unwrap_or(0);
+    let good = good_places(strings);
+    let bad: Vec<usize> = (0..last_zero).filter(|o| good.binary_search(o).is_err()).collect();
+    if !bad.is_empty() && random.one_in(2) {
+        return random.pick(&bad);
+    }
+    let at = strings.len();
+    for _ in 0..random.below(4) {
+        strings.extend_from_slice(random.pick(&[b"a", &b"main"[..], "\u{e9}".as_bytes()]));
+    }
+    strings.extend_from_slice(random.pick(&ILL_FORMED));
+    strings.resize((strings.len() + 1).next_multiple_of(4), 0);
+    at
+}
+
 /// PSV0 data that is mostly right.
 pub fn made(random: &mut Random) -> Psv0 {
     let size = random.pick(&[24, 24, 28, 32, 36, 36, 40, 48, 48, 52, 52, 52, 56, 60]);
@@ -327,18 +453,25 @@ pub fn made(random: &mut Random) -> Psv0 {
             let some = stage == 2 || random.one_in(100);
             psv0.runtime[at] = if some { random.pick(&[0, 1, 9]) } else { 0 };
         }
-        let length = 4 * random.pick(&[1, 2, 4]);
-        psv0.strings = (0..length).map(|_| random.pick(b"\0\0ab")).collect();
-        if !random.one_in(20) {
-            psv0.strings[length - 1] = 0;
+        let length = 4 * random.pick(&[1, 2, 4, 8]);
+        psv0.strings = strings(random, length, b"\0ab");
+        if random.one_in(20) {
+            psv0.strings[length - 1] = random.pick(b"ab\x80\xc3");
         }
+        let good = good_places(&psv0.strings);
+        // Mostly a good place, at times any, or the end of the table.
+        let place = |random: &mut Random, odds: usize| match random.below(odds) {
+            0 => length,
+            1 | 2 => random.below(length),
+            _ if good.is_empty() => 0,
+            _ => random.pick(&good),
+        };
         let count = random.pick(&[0, 1, 2, 6]);
         psv0.indices = (0..count).map(|_| random.pick(&[0, 1, 2, u32::MAX])).collect();
         let elements: usize = psv0.runtime[28..31].iter().map(|n| usize::from(*n)).sum();
         psv0.element_size = random.pick(&[16, 16, 16, 20, 32]);
         for _ in 0..elements {
-            let bound = length + usize::from(random.one_in(12));
-            let mut record = words(&[random.below(bound) as u32]);
+            let mut record = words(&[place(random, 60) as u32]);
             // Any stretch of the table, at times one too far or one too long.
             let i = random.below(count + 1);
             let rows = random.below(count - i + 1) + usize::from(random.one_in(24));
@@ -349,8 +482,8 @@ pub fn made(random: &mut Random) -> Psv0 {
         }
         psv0.masks = random.bytes(4 * mask_total(&psv0.runtime));
         if size >= 52 {
-            let bound = length + usize::from(random.one_in(8));
-            put4(&mut psv0.runtime, 48, random.below(bound) as u32);
+            let entry_name = place(random, 40) as u32;
+            put4(&mut psv0.runtime, 48, entry_name);
         }
     }
     if random.one_in(4) {

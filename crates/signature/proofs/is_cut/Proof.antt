@@ -1,7 +1,7 @@
 use native.Mathlib.Omega.{arith}
 use borrow.Author.Tests.{lt-ltb}
-use Rattle.signature.proofs.is_bad.Statement.{statement}
-use Rattle.signature.proofs.is_bad.Tie as tie
+use Rattle.signature.proofs.is_cut.Statement.{statement}
+use Rattle.signature.proofs.is_cut.Tie as tie
 
 returns : tie.Need-returns
 returns c = rw (c .if1 .taken)
@@ -9,5 +9,5 @@ returns c = rw (c .if1 .taken)
 returns-2 : tie.Need-returns-2
 returns-2 c = rw (lt-ltb 0 (c .before .args .o) (omega (arith, c .if1 .left)))
 
-pub is-bad-spec : {M : Type 1} → statement M
-is-bad-spec = tie.close (tie.spec returns returns-2)
+pub is-cut-spec : {M : Type 1} → statement M
+is-cut-spec = tie.close (tie.spec returns returns-2)

@@ -1,0 +1,7 @@
+pub mod Machine
+pub mod Marking
+pub mod Plain
+pub mod Records
+pub mod Rows
+pub mod Stops
+pub mod Table
