@@ -2,7 +2,7 @@
 
    Every call takes any bytes and answers. Its answer begins with a verdict: number 0 where the call accepts, else a refusal number of
    documents 01 and 02 with its place. Beside a refusal every number is 0, no field is set, and a span has start and length 0.
-   Every string that is shown is well-formed UTF-8 (table 3-7 of the Unicode Standard) and is not ended by a zero in its length.
+   Every string that is shown is well-formed UTF-8 (table 3-7 of the Unicode Standard); its length doesn't count the zero after it.
    A pointer is followed by its length and may be null where that is 0, "sizes" and "out" too; a name has no length and points to four
    bytes. Only "out" is written; it must not overlap the others, and nothing else may change the bytes or "out" during a call.
    Calls share nothing and may run on any number of threads at once, on the same bytes too.
