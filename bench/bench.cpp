@@ -419,12 +419,13 @@ static void refusals(const std::filesystem::path &shader) {
     refusal_table({"S odd", "edition 4"}, {calls_on_psv0(odd, 3), calls_on_psv0(psv0, 4)});
 }
 
-static Bytes many_parts(size_t data) {
+// 96 parts: DXIL and PSV0 after 94 with names of their own, or with one name.
+static Bytes many_parts(size_t data, const char *one_name = nullptr) {
     Parts p;
     for (int i = 0; i < 94; i++) {
         char name[8];
         snprintf(name, sizeof name, "P%03d", i);
-        p.add(name, Bytes(data, 1));
+        p.add(one_name ? one_name : name, Bytes(data, 1));
     }
     p.add("DXIL", Bytes(4, 1));
     p.add("PSV0", psv0_of(0, 0, 0, Bytes(4, 0), 0));
@@ -441,6 +442,7 @@ static void hostile() {
         {"96 parts, empty", many_parts(0)},
         {"96 parts, 16 bytes each", many_parts(16)},
         {"96 parts, 64 bytes each", many_parts(64)},
+        {"96 parts, 94 of them PRIV", many_parts(64, "PRIV")},
         {"16 MB strings, zero at start", with_psv0(psv0_of(0, 765, 0, start, 1))},
         {"16 MB strings, zero at end", with_psv0(psv0_of(0, 765, 0, end, 1))},
         {"16 MB strings, no zero", with_psv0(psv0_of(0, 765, 0, none, 1))},
@@ -816,7 +818,7 @@ static void roots() {
     round_ns = usual;
 }
 
-// What handing back 1,176 bytes costs: the table of a file that the first check refuses, beside a call that hands back 40.
+// What handing back 1,944 bytes costs: the table of a file that the first check refuses, beside a call that hands back 40.
 static void handing_back(const std::filesystem::path &shader) {
     Bytes b = load(shader);
     const uint8_t *name = reinterpret_cast<const uint8_t *>("PSV0");

@@ -31,13 +31,18 @@ typedef struct {
 } qollqamir_field;
 
 /* A part table. Entries from count on are 0. A name is its four bytes as one little-endian number; an offset is that of the part's
-   header, whose data start 8 bytes later. */
+   header, whose data start 8 bytes later. PRIV alone may stand more than once: an occurrence is how many earlier parts bear the part's name,
+   so 0 for every other name. A gap is how many bytes lie before the part's header, after the part before it or, for the first, after the
+   offset table. 32, 4 x count, every gap, every part's 8 + size and the bytes after the last part (with no part, after the offset table)
+   sum to the length. */
 typedef struct {
     qollqamir_verdict verdict;
     size_t count;
     uint32_t names[96];
     uint32_t offsets[96];
     uint32_t sizes[96];
+    uint32_t occurrences[96];
+    uint32_t gaps[96];
 } qollqamir_parts;
 
 /* A part: its number, the offset of its header (its data start 8 bytes later) and its data size. */
@@ -289,7 +294,8 @@ QOLLQAMIR_NO_PADDING(qollqamir_field, QOLLQAMIR_SIZE(qollqamir_field, set) + QOL
 QOLLQAMIR_NO_PADDING(qollqamir_parts,
                      QOLLQAMIR_SIZE(qollqamir_parts, verdict) + QOLLQAMIR_SIZE(qollqamir_parts, count) +
                      QOLLQAMIR_SIZE(qollqamir_parts, names) + QOLLQAMIR_SIZE(qollqamir_parts, offsets) +
-                     QOLLQAMIR_SIZE(qollqamir_parts, sizes));
+                     QOLLQAMIR_SIZE(qollqamir_parts, sizes) + QOLLQAMIR_SIZE(qollqamir_parts, occurrences) +
+                     QOLLQAMIR_SIZE(qollqamir_parts, gaps));
 QOLLQAMIR_NO_PADDING(qollqamir_found,
                      QOLLQAMIR_SIZE(qollqamir_found, verdict) + QOLLQAMIR_SIZE(qollqamir_found, number) +
                      QOLLQAMIR_SIZE(qollqamir_found, offset) + QOLLQAMIR_SIZE(qollqamir_found, size));
@@ -431,8 +437,12 @@ enum {
 /* The part table alone: 1 to 9. */
 qollqamir_parts qollqamir_table(const uint8_t *bytes, size_t len);
 
-/* A part by its name, from the part table alone: 1 to 9, then 26. name points to four bytes. */
+/* The first part with a name, from the part table alone: 1 to 9, then 26. name points to four bytes. */
 qollqamir_found qollqamir_table_part(const uint8_t *bytes, size_t len, const uint8_t *name);
+
+/* The part with a name and an occurrence: of several PRIV parts the first has 0, the next 1, and so on. A number that is too great gives 26,
+   any but 0 for every other name. */
+qollqamir_found qollqamir_table_part_occurrence(const uint8_t *bytes, size_t len, const uint8_t *name, size_t occurrence);
 
 /* Whether a name, four bytes, is one of the 24 that are known. */
 bool qollqamir_known(const uint8_t *name);
@@ -449,8 +459,10 @@ enum { QOLLQAMIR_DEFAULT_EDITION = 3 };
 qollqamir_opening qollqamir_open_default(const uint8_t *bytes, size_t len);
 
 /* Queries on a container's bytes at an edition. Each gives what qollqamir_open gives, then 26 where what is asked for isn't there or is
-   unset. Spans are stretches of the container. */
+   unset. Spans are stretches of the container. qollqamir_part gives the first part with the name; an occurrence is as in
+   qollqamir_table_part_occurrence. */
 qollqamir_found qollqamir_part(const uint8_t *bytes, size_t len, size_t edition, const uint8_t *name);
+qollqamir_found qollqamir_part_occurrence(const uint8_t *bytes, size_t len, size_t edition, const uint8_t *name, size_t occurrence);
 qollqamir_info qollqamir_runtime_info(const uint8_t *bytes, size_t len, size_t edition);
 qollqamir_resource_record qollqamir_resource(const uint8_t *bytes, size_t len, size_t edition, size_t i);
 qollqamir_element_record qollqamir_element(const uint8_t *bytes, size_t len, size_t edition, size_t i);

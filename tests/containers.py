@@ -1,4 +1,5 @@
 """Containers made for the programs' runs."""
+import itertools
 import struct
 
 
@@ -10,14 +11,14 @@ def words(*numbers):
     return b"".join(word(n) for n in numbers)
 
 
-def box(parts, magic=b"DXBC", version=(1, 0), size=None, count=None, offsets=None):
-    """A container of (name, data) pairs, one right after the other; fields can be set wrong."""
+def box(parts, magic=b"DXBC", version=(1, 0), size=None, count=None, offsets=None, gaps=()):
+    """A container of (name, data) pairs, one right after the other but for gaps of so many bytes before them; fields can be set wrong."""
     at = 32 + 4 * len(parts)
     places, body = [], b""
-    for name, data in parts:
-        places.append(at)
-        body += name + word(len(data)) + data
-        at += 8 + len(data)
+    for (name, data), gap in itertools.zip_longest(parts, gaps, fillvalue=0):
+        places.append(at + gap)
+        body += bytes(gap) + name + word(len(data)) + data
+        at += gap + 8 + len(data)
     header = magic + bytes(16) + struct.pack("<HH", *version)
     header += word(at if size is None else size) + word(len(parts) if count is None else count)
     return header + words(*(offsets or places)) + body
@@ -68,7 +69,7 @@ def hull():
     """A hull shader with something at every line of `show`: PSV0 data off every multiple of 4, records longer than the known ones,
     strings with bytes that don't print and a letter of two bytes, index arrays of 0 (at the table's end), 1 and 3 numbers, view and input
     masks. ISG1: PSV0's name, no name, and one past PSV0's list; OSG1: an empty name, in the header, as PSV0 has it; PSG1: a bad name, the
-    second. RTS0: every kind of item."""
+    second. RTS0: every kind of item. Three PRIV parts, and gaps of 1 and 4 bytes."""
     stage, view, patch = 3, 1, 2
     record = bytes(range(16)) + words(4, 0xFFFFFFFF) + bytes([stage, view, patch, 0, 2, 1, 1, 1, 9, 0, 0, 0]) + words(7, 8, 9, 21)
     resources = words(2, 0, 0, 0, 13, 0, 99) + words(3, 1, 5, 0xFFFFFFFF, 2, 1, 99)
@@ -93,7 +94,9 @@ def hull():
     patches = [(0, 74, 0, 0, 0, 0, 0, 0, 0), (0, 75, 0, 0, 0, 0, 0, 0, 0)]
     return box(
         [
+            (b"PRIV", b"one"),
             (b"SFI0", b"\1\2\3\4"),
+            (b"PRIV", b""),
             (b"DXIL", b"\5"),
             (b"PSV0", data),
             (b"!\x20\x7f\xff", b""),
@@ -101,5 +104,7 @@ def hull():
             (b"OSG1", signature(outputs, b"")),
             (b"PSG1", signature(patches, b"ab\0c")),
             (b"RTS0", root_signature()),
-        ]
+            (b"PRIV", b"three"),
+        ],
+        gaps=[1, 0, 4],
     )

@@ -13,6 +13,8 @@ from containers import EDITION_0, LONGEST, M, PROGRAM, box, psv0, with_psv0, wor
 
 TABLE_C = "accepted 3 2\nDXIL 40 4 known\nPSV0 52 76 known\n"
 THREE = "accepted 0 3\nDXIL 44 4 known\nPSV0 56 32 known\n"
+NOTE = (b"PRIV", b"ab")
+TWO_NOTES = "accepted 0 4\nDXIL 48 4 known\nPSV0 60 32 known\nPRIV 101 2 known\nPRIV 111 2 known\n"
 # Element records, for an index table of one number: name offset, index reference, rows.
 GOOD, BAD_NAME, BAD_INDEX, EMPTY, PAST = (
     word(name) + word(index) + bytes([rows]) + bytes(7) for name, index, rows in [(1, 0, 1), (8, 0, 1), (1, 1, 1), (1, 1, 0), (1, 2, 0)]
@@ -31,6 +33,8 @@ CASES = [
     ("offset table past the end", box([], count=1), "refused 7 0\n"),
     ("a part one byte early", box([PROGRAM, EDITION_0], offsets=[40, 51]), "refused 8 1\n"),
     ("a name twice", box([PROGRAM, EDITION_0, PROGRAM]), "refused 9 2\n"),
+    ("PRIV twice, after a gap", box([PROGRAM, EDITION_0, NOTE, NOTE], gaps=[0, 0, 1]), TWO_NOTES),
+    ("a name twice beside them", box([NOTE, PROGRAM, EDITION_0, NOTE, EDITION_0]), "refused 9 4\n"),
     ("no DXIL", box([EDITION_0]), "refused 10 0\n"),
     ("an empty DXIL", box([(b"DXIL", b""), EDITION_0]), "refused 10 0\n"),
     ("no PSV0", box([PROGRAM]), "refused 11 0\n"),

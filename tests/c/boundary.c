@@ -1,5 +1,6 @@
-/* Calls the library through its C header: the boxes M and C of document 01, the last field of every struct, both writers, the program
-   header, the signature parts and the root signature of document 02, every byte of the answers of every call, null pointers. */
+/* Calls the library through its C header: the boxes M and C of document 01, the last field of every struct, both writers, several private
+   parts, the program header, the signature parts and the root signature of document 02, every byte of the answers of every call, null
+   pointers. */
 #include "qollqamir.h"
 
 #include <stdio.h>
@@ -171,19 +172,67 @@ static bool says(const uint8_t *bytes, qollqamir_span span, const void *text, si
            span.points == code_points(text, len);
 }
 
+/* ---- the part table */
+
+static void same_found(qollqamir_found got, qollqamir_found expected) { CHECK(memcmp(&got, &expected, sizeof got) == 0); }
+
+#define FOUND(number, offset, size) ((qollqamir_found){{0, 0}, number, offset, size})
+#define NOT_FOUND(n, p) ((qollqamir_found){.verdict = {n, p}})
+
+/* A table that passes, beside the bytes: each entry is what stands there, the occurrence and the gap are counted anew, nothing is set past
+   the count, and the sum is the length. Each part is found by its name and occurrence, and none past the last one of its name. */
+static void table_holds(const qollqamir_parts *parts, const uint8_t *bytes, size_t len) {
+    size_t count = get32(bytes + 28), end = 32 + 4 * count, sum = end;
+    CHECK(parts->count == count && count <= 96);
+    for (size_t i = 0; i < count; i++) {
+        size_t offset = get32(bytes + 32 + 4 * i), size = get32(bytes + offset + 4), earlier = 0, all = 0;
+        const uint8_t *four = bytes + offset;
+        CHECK(parts->names[i] == get32(four) && parts->offsets[i] == offset && parts->sizes[i] == size);
+        for (size_t k = 0; k < count; k++) {
+            bool same_name = get32(bytes + get32(bytes + 32 + 4 * k)) == get32(four);
+            all += same_name;
+            earlier += same_name && k < i;
+        }
+        CHECK(all == 1 || memcmp(four, "PRIV", 4) == 0);
+        CHECK(parts->occurrences[i] == earlier && parts->gaps[i] == offset - end);
+        same_found(qollqamir_table_part_occurrence(bytes, len, four, earlier), FOUND(i, offset, size));
+        same_found(qollqamir_table_part_occurrence(bytes, len, four, all), NOT_FOUND(26, 0));
+        end = offset + 8 + size;
+        sum += parts->gaps[i] + (size_t)8 + parts->sizes[i];
+    }
+    CHECK(end <= len && sum + (len - end) == len);
+    static const uint32_t none[96];
+    size_t rest = (96 - count) * sizeof *none;
+    CHECK(memcmp(parts->names + count, none, rest) == 0 && memcmp(parts->offsets + count, none, rest) == 0);
+    CHECK(memcmp(parts->sizes + count, none, rest) == 0 && memcmp(parts->occurrences + count, none, rest) == 0);
+    CHECK(memcmp(parts->gaps + count, none, rest) == 0);
+}
+
+/* Reads a table and checks all of it, beside a refusal too. */
+static qollqamir_parts read_table(const uint8_t *bytes, size_t len) {
+    qollqamir_parts parts = qollqamir_table(bytes, len), nothing = {.verdict = parts.verdict};
+    if (parts.verdict.number == 0) {
+        table_holds(&parts, bytes, len);
+    } else {
+        CHECK(memcmp(&parts, &nothing, sizeof parts) == 0);
+    }
+    return parts;
+}
+
 static void test_box_m(void) {
     uint8_t psv0[64], m[128];
     size_t psv0_len = box_m(psv0, 24, 24);
     size_t len = shader(m, psv0, psv0_len);
     CHECK(psv0_len == 32 && len == 92);
 
-    qollqamir_parts parts = qollqamir_table(m, len);
+    qollqamir_parts parts = read_table(m, len);
     ACCEPTED(parts);
     CHECK(parts.count == 2);
     CHECK(parts.names[0] == get32(name("DXIL")) && parts.offsets[0] == 40 && parts.sizes[0] == 4);
     CHECK(parts.names[1] == get32(name("PSV0")) && parts.offsets[1] == 52 && parts.sizes[1] == 32);
-    for (size_t i = 2; i < 96; i++) {
-        CHECK(parts.names[i] == 0 && parts.offsets[i] == 0 && parts.sizes[i] == 0);
+    for (size_t i = 0; i < 96; i++) {
+        CHECK(parts.occurrences[i] == 0 && parts.gaps[i] == 0);
+        CHECK(i < 2 || (parts.names[i] == 0 && parts.offsets[i] == 0 && parts.sizes[i] == 0));
     }
 
     for (size_t edition = 0; edition <= 3; edition++) {
@@ -223,30 +272,30 @@ static void test_box_m(void) {
     REFUSED(qollqamir_open(m, 0, SIZE_MAX), 25, 0);
     REFUSED(qollqamir_psv0_open(psv0, psv0_len, 4), 25, 0);
 
-    REFUSED(qollqamir_table(m, 31), 1, 0);
+    REFUSED(read_table(m, 31), 1, 0);
     REFUSED(qollqamir_open(m, 31, 3), 1, 0);
     REFUSED(qollqamir_open(m, 0, 3), 1, 0);
-    REFUSED(qollqamir_table(m, len - 1), 5, 0);
+    REFUSED(read_table(m, len - 1), 5, 0);
     m[0] = 'X';
-    REFUSED(qollqamir_table(m, len), 3, 0);
+    REFUSED(read_table(m, len), 3, 0);
     m[0] = 'D';
     m[22] = 1;
-    REFUSED(qollqamir_table(m, len), 4, 0);
+    REFUSED(read_table(m, len), 4, 0);
     m[22] = 0;
     put32(m + 28, 97);
-    REFUSED(qollqamir_table(m, len), 6, 0);
+    REFUSED(read_table(m, len), 6, 0);
     put32(m + 28, 96);
-    REFUSED(qollqamir_table(m, len), 7, 0);
+    REFUSED(read_table(m, len), 7, 0);
     put32(m + 28, 2);
     put32(m + 36, 51);
-    parts = qollqamir_table(m, len);
+    parts = read_table(m, len);
     REFUSED(parts, 8, 1);
     CHECK(parts.count == 0 && parts.names[0] == 0 && parts.offsets[0] == 0 && parts.sizes[95] == 0);
     put32(m + 36, 52);
     put(m + 52, "DXIL", 4);
-    REFUSED(qollqamir_table(m, len), 9, 1);
+    REFUSED(read_table(m, len), 9, 1);
     put(m + 52, "STAT", 4);
-    ACCEPTED(qollqamir_table(m, len));
+    ACCEPTED(read_table(m, len));
     REFUSED(qollqamir_open(m, len, 0), 11, 0);
     put(m + 40, "SHEX", 4);
     REFUSED(qollqamir_open(m, len, 0), 10, 0);
@@ -364,11 +413,12 @@ static void test_last_entries(void) {
     ACCEPTED(written);
     CHECK(written.len == 32 + 4 * 96 + 12 * 96 - 3);
     CHECK(out[written.len - 1] == 95 && out[written.len] == 0xee);
-    qollqamir_parts parts = qollqamir_table(out, written.len);
+    qollqamir_parts parts = read_table(out, written.len);
     ACCEPTED(parts);
     CHECK(parts.count == 96);
     for (uint32_t i = 0; i < 96; i++) {
         CHECK(parts.names[i] == 0x41414100 + i && parts.offsets[i] == 416 + 12 * i && parts.sizes[i] == 1);
+        CHECK(parts.occurrences[i] == 0 && parts.gaps[i] == (i == 0 ? 0 : 3));
     }
     qollqamir_found found = qollqamir_table_part(out, written.len, names + 4 * 95);
     ACCEPTED(found);
@@ -540,10 +590,349 @@ static void test_writers(void) {
     written = qollqamir_assemble(none, 0, sizes, 0, none, 0, name("0123456789abcdef"), 16, out, 32);
     ACCEPTED(written);
     CHECK(written.len == 32);
-    CHECK(qollqamir_table(out, 32).verdict.number == 0 && qollqamir_table(out, 32).count == 0);
+    CHECK(read_table(out, 32).verdict.number == 0 && read_table(out, 32).count == 0);
     REFUSED(qollqamir_open(out, 32, 0), 10, 0);
 #undef WRITE
 #undef ASSEMBLE
+}
+
+/* ---- several private parts */
+
+/* A part to lay out, with the bytes before its header, and what the table is to show of it. */
+struct entry {
+    const char *name;
+    uint32_t gap, offset, size, occurrence;
+    const void *data;
+};
+
+/* PSV0 data of box M. */
+static const uint8_t plain[32] = {24};
+
+/* Lays out parts by their gaps and sizes, with bytes after the last one. */
+static size_t lay_out(uint8_t *out, const struct entry *entries, uint32_t count, size_t after) {
+    size_t n = 32 + 4 * (size_t)count;
+    for (uint32_t i = 0; i < count; i++) {
+        memset(out + n, 0xcc, entries[i].gap);
+        n += entries[i].gap;
+        put32(out + 32 + 4 * i, (uint32_t)n);
+        n += put(out + n, entries[i].name, 4);
+        n += put32(out + n, entries[i].size);
+        n += put(out + n, entries[i].data, entries[i].size);
+    }
+    memset(out + n, 0xcc, after);
+    n += after;
+    put(out, "DXBC", 4);
+    memset(out + 4, 0xd1, 16);
+    put32(out + 20, 1);
+    put32(out + 24, (uint32_t)n);
+    put32(out + 28, count);
+    return n;
+}
+
+/* Two private parts, no bytes, one and seven before headers; with two bytes after the last part 134 bytes. */
+static const struct entry two[4] = {
+    {"DXIL", 0, 48, 4, 0, "code"},
+    {"PRIV", 1, 61, 3, 0, "one"},
+    {"PSV0", 0, 72, 32, 0, plain},
+    {"PRIV", 7, 119, 5, 1, "other"},
+};
+
+/* Three, the first of them the first part and empty, four bytes after the offset table, and many before the last; 454 bytes. */
+static const struct entry three[6] = {
+    {"PRIV", 4, 60, 0, 0, ""},
+    {"DXIL", 0, 68, 4, 0, "code"},
+    {"PRIV", 0, 80, 2, 1, "no"},
+    {"PSV0", 1, 91, 32, 0, plain},
+    {"PRIV", 300, 431, 1, 2, "t"},
+    {"VERS", 0, 440, 6, 0, "verses"},
+};
+
+/* What is found by a name and an occurrence, from the table alone and in the container, where what opening it gives comes first. The calls
+   that take no occurrence find the same as at 0. */
+static void finds(const uint8_t *bytes, size_t len, const void *four, size_t occurrence, qollqamir_found expected) {
+    same_found(qollqamir_table_part_occurrence(bytes, len, four, occurrence), expected);
+    if (occurrence == 0) {
+        same_found(qollqamir_table_part(bytes, len, four), expected);
+    }
+    for (size_t edition = 0; edition <= 4; edition++) {
+        qollqamir_verdict opened = qollqamir_open(bytes, len, edition).verdict;
+        qollqamir_found here = opened.number == 0 ? expected : NOT_FOUND(opened.number, opened.place);
+        CHECK(edition < 4 || opened.number == 25);
+        same_found(qollqamir_part_occurrence(bytes, len, edition, four, occurrence), here);
+        if (occurrence == 0) {
+            same_found(qollqamir_part(bytes, len, edition, four), here);
+        }
+    }
+}
+
+/* No part of a name from an occurrence on. A number of more than 32 bits is too great as a whole. */
+static void finds_none_from(const uint8_t *bytes, size_t len, const void *four, size_t occurrence) {
+    const size_t numbers[] = {occurrence, occurrence + 1, 95, 96, 97, UINT32_MAX, (size_t)1 << 32, ((size_t)1 << 32) + 1, SIZE_MAX};
+    for (size_t k = 0; k < sizeof numbers / sizeof *numbers; k++) {
+        if (numbers[k] >= occurrence) {
+            finds(bytes, len, four, numbers[k], NOT_FOUND(26, 0));
+        }
+    }
+}
+
+/* The table and the queries show these entries, so many of them private, and so many bytes lie after the last. */
+static void shows_entries(const uint8_t *bytes, size_t len, const struct entry *entries, size_t count, size_t private_parts, size_t after) {
+    qollqamir_parts parts = read_table(bytes, len);
+    ACCEPTED(parts);
+    CHECK(parts.count == count);
+    size_t sum = 32 + 4 * count;
+    for (size_t i = 0; i < count; i++) {
+        const struct entry *e = &entries[i];
+        CHECK(parts.names[i] == get32(name(e->name)) && parts.offsets[i] == e->offset && parts.sizes[i] == e->size);
+        CHECK(parts.occurrences[i] == e->occurrence && parts.gaps[i] == e->gap);
+        finds(bytes, len, e->name, e->occurrence, FOUND(i, e->offset, e->size));
+        CHECK(memcmp(bytes + e->offset + 8, e->data, e->size) == 0);
+        sum += e->gap + (size_t)8 + e->size;
+        if (memcmp(e->name, "PRIV", 4) != 0) {
+            finds_none_from(bytes, len, e->name, 1);
+        }
+    }
+    CHECK(sum + after == len);
+    finds_none_from(bytes, len, "PRIV", private_parts);
+    finds_none_from(bytes, len, "HASH", 0);
+}
+
+static void test_private(void) {
+    uint8_t bytes[512];
+    size_t len = lay_out(bytes, two, 4, 2);
+    CHECK(len == 134);
+    ACCEPTED(qollqamir_open(bytes, len, 0));
+    shows_entries(bytes, len, two, 4, 2, 2);
+    len = lay_out(bytes, three, 6, 0);
+    CHECK(len == 454);
+    ACCEPTED(qollqamir_open_default(bytes, len));
+    shows_entries(bytes, len, three, 6, 3, 0);
+
+    /* The same once more in plain numbers. */
+    qollqamir_found found = qollqamir_part_occurrence(bytes, len, 3, name("PRIV"), 2);
+    ACCEPTED(found);
+    CHECK(found.number == 4 && found.offset == 431 && found.size == 1 && bytes[found.offset + 8] == 't');
+    found = qollqamir_table_part_occurrence(bytes, len, name("PRIV"), 1);
+    ACCEPTED(found);
+    CHECK(found.number == 2 && found.offset == 80 && found.size == 2);
+    REFUSED(qollqamir_part_occurrence(bytes, len, 3, name("PRIV"), 3), 26, 0);
+    REFUSED(qollqamir_part_occurrence(bytes, len, 3, name("DXIL"), 1), 26, 0);
+    REFUSED(qollqamir_part_occurrence(bytes, len, 4, name("PRIV"), 3), 25, 0);
+    CHECK(qollqamir_part(bytes, len, 3, name("PRIV")).offset == 60 && qollqamir_table_part(bytes, len, name("PRIV")).offset == 60);
+
+    /* Private parts alone, end to end: no container that opens. */
+    static const struct entry alone[2] = {{"PRIV", 0, 40, 1, 0, "a"}, {"PRIV", 0, 49, 2, 1, "bc"}};
+    len = lay_out(bytes, alone, 2, 0);
+    CHECK(len == 59);
+    shows_entries(bytes, len, alone, 2, 2, 0);
+    REFUSED(qollqamir_part_occurrence(bytes, len, 3, name("PRIV"), 1), 10, 0);
+    /* The second may not be the first once more, nor start a byte before its end. */
+    put32(bytes + 36, 40);
+    REFUSED(read_table(bytes, len), 8, 1);
+    put32(bytes + 36, 48);
+    memmove(bytes + 48, bytes + 49, 10);
+    REFUSED(read_table(bytes, len), 8, 1);
+    finds(bytes, len, "PRIV", 1, NOT_FOUND(8, 1));
+
+    /* Without parts all that follows the header lies after the offset table. */
+    static const size_t after[] = {0, 1, 4, 400};
+    for (size_t k = 0; k < 4; k++) {
+        len = lay_out(bytes, NULL, 0, after[k]);
+        CHECK(len == 32 + after[k]);
+        shows_entries(bytes, len, NULL, 0, 0, after[k]);
+    }
+}
+
+/* Every other name is refused where it stands again, whatever private parts stand around it, by the assembler too. */
+static void test_repeated(void) {
+    /* The 24 known names, then others, most of them near PRIV. */
+    static const char all[] = "DXILHASHILDBILDNISG1ISGNOSG1OSG5OSGNPCSGPDBIPRIVPSG1PSV0RDATRDEFRTS0SFI0SHDRSHEXDXBCSRCISTATVERS"
+                              "priv\0RIVP\0IVPR\0VPRI\0QRIVPSIVPRHVPRIWPRIUVIRP\0\0\0\0\xff\xff\xff\xff";
+    static const uint32_t sizes[5] = {1, 0, 2, 3, 1};
+    for (size_t k = 0; k < sizeof all - 1; k += 4) {
+        const char *other = all + k;
+        CHECK(qollqamir_known(name(other)) == (k < 4 * 24));
+        if (memcmp(other, "PRIV", 4) == 0) {
+            continue;
+        }
+        /* Five parts, at least two of them private and the others of one name: the first place where that stands again. */
+        for (unsigned set = 0; set < 32; set++) {
+            uint8_t names[20], bytes[256], out[256];
+            struct entry entries[5];
+            size_t place = 0, others = 0, privates = 0;
+            for (uint32_t i = 0; i < 5; i++) {
+                bool private_part = set >> i & 1;
+                entries[i] = (struct entry){.name = private_part ? "PRIV" : other, .gap = i % 3, .size = sizes[i], .data = "data"};
+                put(names + 4 * i, entries[i].name, 4);
+                others += !private_part;
+                privates += private_part;
+                if (!private_part && others == 2) {
+                    place = i;
+                }
+            }
+            if (privates < 2) {
+                continue;
+            }
+            size_t len = lay_out(bytes, entries, 5, 1);
+            memset(out, 0xee, sizeof out);
+            qollqamir_written written =
+                qollqamir_assemble(names, 20, sizes, 5, name("dataabc"), 7, name("0123456789abcdef"), 16, out, sizeof out);
+            if (others < 2) {
+                ACCEPTED(read_table(bytes, len));
+                ACCEPTED(written);
+                CHECK(read_table(out, written.len).count == 5);
+                continue;
+            }
+            REFUSED(read_table(bytes, len), 9, place);
+            for (size_t occurrence = 0; occurrence < 3; occurrence++) {
+                finds(bytes, len, "PRIV", occurrence, NOT_FOUND(9, place));
+                finds(bytes, len, other, occurrence, NOT_FOUND(9, place));
+            }
+            REFUSED(written, 9, place);
+            CHECK(written.len == 0);
+            for (size_t i = 0; i < sizeof out; i++) {
+                CHECK(out[i] == 0xee);
+            }
+        }
+    }
+
+    /* 8 of a later part comes before it. */
+    uint8_t bytes[512];
+    size_t len = lay_out(bytes, three, 6, 0);
+    put(bytes + 91, "DXIL", 4);
+    REFUSED(read_table(bytes, len), 9, 3);
+    put(bytes + 440, "DXIL", 4);
+    REFUSED(read_table(bytes, len), 9, 3);
+    put32(bytes + 52, 439);
+    REFUSED(read_table(bytes, len), 8, 5);
+    finds(bytes, len, "PRIV", 1, NOT_FOUND(8, 5));
+}
+
+/* 96 private parts, then 94 among which a shader stands. */
+static void test_many_private(void) {
+    uint8_t names[4 * 97], data[4 * 97 + 36], digest[16] = {0}, out[2048];
+    uint32_t sizes[97];
+    size_t n = 0;
+    for (size_t i = 0; i < 97; i++) {
+        put(names + 4 * i, "PRIV", 4);
+        sizes[i] = i % 5;
+        memset(data + n, (int)i, sizes[i]);
+        n += i < 96 ? sizes[i] : 0;
+    }
+    memset(out, 0xee, sizeof out);
+    REFUSED(qollqamir_assemble(names, 4 * 97, sizes, 97, data, n + sizes[96], digest, 16, out, sizeof out), 6, 0);
+    put(names, "DXIL", 4);
+    put(names + 4 * 95, "DXIL", 4);
+    REFUSED(qollqamir_assemble(names, 4 * 96, sizes, 96, data, n, digest, 16, out, sizeof out), 9, 95);
+    put(names, "PRIV", 4);
+    put(names + 4 * 95, "PRIV", 4);
+    CHECK(out[0] == 0xee && memcmp(out, out + 1, sizeof out - 1) == 0);
+    qollqamir_written written = qollqamir_assemble(names, 4 * 96, sizes, 96, data, n, digest, 16, out, sizeof out);
+    ACCEPTED(written);
+    /* Five parts take 56 bytes; the last of the 96 is the first of its five, and empty. */
+    CHECK(written.len == 416 + 19 * 56 + 8);
+    qollqamir_parts parts = read_table(out, written.len);
+    ACCEPTED(parts);
+    static const uint32_t starts[5] = {0, 8, 20, 32, 44}, gaps[5] = {0, 0, 3, 2, 1};
+    for (uint32_t i = 0; i < 96; i++) {
+        uint32_t offset = 416 + 56 * (i / 5) + starts[i % 5];
+        CHECK(parts.names[i] == get32(name("PRIV")) && parts.offsets[i] == offset && parts.sizes[i] == i % 5);
+        CHECK(parts.occurrences[i] == i && parts.gaps[i] == gaps[i % 5]);
+        finds(out, written.len, "PRIV", i, FOUND(i, offset, i % 5));
+        for (size_t k = 0; k < i % 5; k++) {
+            CHECK(out[offset + 8 + k] == i);
+        }
+    }
+    finds_none_from(out, written.len, "PRIV", 96);
+    REFUSED(qollqamir_part_occurrence(out, written.len, 3, name("PRIV"), 95), 10, 0);
+    /* Another name twice among them, far apart. */
+    put(out + 416, "VERS", 4);
+    put(out + parts.offsets[95], "VERS", 4);
+    REFUSED(read_table(out, written.len), 9, 95);
+
+    put(names + 4 * 40, "DXIL", 4);
+    put(names + 4 * 60, "PSV0", 4);
+    n = 0;
+    for (size_t i = 0; i < 96; i++) {
+        sizes[i] = i == 40 ? 4 : i == 60 ? 32 : 1;
+        memset(data + n, (int)i, sizes[i]);
+        n += sizes[i];
+    }
+    put(data + 63, plain, 32);
+    written = qollqamir_assemble(names, 4 * 96, sizes, 96, data, n, digest, 16, out, sizeof out);
+    ACCEPTED(written);
+    ACCEPTED(qollqamir_open(out, written.len, 3));
+    for (size_t i = 0; i < 96; i++) {
+        size_t offset = 416 + 12 * i + (i > 60 ? 28 : 0);
+        if (i != 40 && i != 60) {
+            finds(out, written.len, "PRIV", i - (i > 40) - (i > 60), FOUND(i, offset, 1));
+            CHECK(out[offset + 8] == i);
+        }
+    }
+    finds(out, written.len, "DXIL", 0, FOUND(40, 416 + 12 * 40, 4));
+    finds(out, written.len, "PSV0", 0, FOUND(60, 416 + 12 * 60, 32));
+    finds_none_from(out, written.len, "PRIV", 94);
+    finds_none_from(out, written.len, "DXIL", 1);
+    read_table(out, written.len);
+}
+
+/* Private parts among others through the assembler, which fills up to multiples of 4, and back. */
+static void test_assembled_private(void) {
+    static const struct entry entries[6] = {
+        {"PRIV", 0, 56, 3, 0, "abc"},
+        {"DXIL", 1, 68, 4, 0, "code"},
+        {"PRIV", 0, 80, 2, 1, "de"},
+        {"PSV0", 2, 92, 32, 0, plain},
+        {"PRIV", 0, 132, 5, 2, "fghij"},
+        {"PRIV", 3, 148, 1, 3, "k"},
+    };
+    uint8_t names[24], data[64], out[256];
+    uint32_t sizes[6];
+    size_t n = 0;
+    for (size_t i = 0; i < 6; i++) {
+        put(names + 4 * i, entries[i].name, 4);
+        sizes[i] = entries[i].size;
+        n += put(data + n, entries[i].data, entries[i].size);
+    }
+#define ASSEMBLE(data_len, out_len) qollqamir_assemble(names, 24, sizes, 6, data, data_len, name("0123456789abcdef"), 16, out, out_len)
+    memset(out, 0xee, sizeof out);
+    REFUSED(ASSEMBLE(n, 156), 28, 0);
+    put(names + 12, "DXIL", 4);
+    put(names + 20, "DXIL", 4);
+    /* 27 comes before 9, and 9 before 28. */
+    REFUSED(ASSEMBLE(n - 1, sizeof out), 27, 0);
+    REFUSED(ASSEMBLE(n, sizeof out), 9, 3);
+    REFUSED(ASSEMBLE(n, 0), 9, 3);
+    put(names + 12, "PSV0", 4);
+    REFUSED(ASSEMBLE(n, sizeof out), 9, 5);
+    put(names + 20, "PRIV", 4);
+    for (size_t i = 0; i < sizeof out; i++) {
+        CHECK(out[i] == 0xee);
+    }
+    qollqamir_written written = ASSEMBLE(n, 157);
+    ACCEPTED(written);
+    CHECK(written.len == 157 && out[157] == 0xee);
+    shows_entries(out, 157, entries, 6, 4, 0);
+    CHECK(qollqamir_open(out, 157, 3).parts == 6);
+#undef ASSEMBLE
+}
+
+/* The greatest length, which a gap takes up, and one more, which every call on a container's parts refuses. */
+static void test_greatest_length(void) {
+    enum { GREATEST = 16777216 };
+    static uint8_t bytes[GREATEST + 1];
+    static const struct entry far[2] = {{"PRIV", 0, 40, 1, 0, "a"}, {"PRIV", 16777159, 16777208, 0, 1, ""}};
+    size_t len = lay_out(bytes, far, 2, 0);
+    CHECK(len == GREATEST);
+    shows_entries(bytes, len, far, 2, 2, 0);
+    len = lay_out(bytes, far, 1, GREATEST - 45);
+    CHECK(len == GREATEST);
+    CHECK(read_table(bytes, len).gaps[0] == 0);
+    put32(bytes + 24, GREATEST + 1);
+    REFUSED(read_table(bytes, GREATEST + 1), 2, 0);
+    for (size_t occurrence = 0; occurrence < 2; occurrence++) {
+        finds(bytes, GREATEST + 1, "PRIV", occurrence, NOT_FOUND(2, 0));
+    }
 }
 
 /* ---- the program header */
@@ -1398,10 +1787,11 @@ static void test_root(void) {
 /* ---- every byte of an answer */
 
 /* The calls. Those up to OPEN_DEFAULT take no edition, nor do those from DXIL_PROGRAM to RTS0_RANGE_ALONE; those on PSV0 data alone stand in
-   the order of those on containers. */
+   the order of those on containers, and a call that takes an occurrence follows the one that takes none. */
 enum call {
-    TABLE, TABLE_PART, KNOWN, OPEN_DEFAULT, PART, PROGRAM, SIGNATURE, SIGNATURE_ELEMENT, SIGNATURE_NAME, SIGNATURE_DIFFERENCE,
-    ROOT, ROOT_ITEM, ROOT_RANGE, OPEN, INFO, RESOURCE, ELEMENT, LENGTHS, VIEW, SECTION,
+    TABLE, TABLE_PART, TABLE_PART_OCCURRENCE, KNOWN, OPEN_DEFAULT, PART, PART_OCCURRENCE, PROGRAM,
+    SIGNATURE, SIGNATURE_ELEMENT, SIGNATURE_NAME, SIGNATURE_DIFFERENCE, ROOT, ROOT_ITEM, ROOT_RANGE,
+    OPEN, INFO, RESOURCE, ELEMENT, LENGTHS, VIEW, SECTION,
     PSV0_OPEN, PSV0_INFO, PSV0_RESOURCE, PSV0_ELEMENT, PSV0_LENGTHS, PSV0_VIEW, PSV0_SECTION,
     DXIL_PROGRAM, SG1_READ, SG1_ELEMENT, SG1_ELEMENT_ALONE, SG1_NAME,
     RTS0_READ, RTS0_ITEM, RTS0_ITEM_ALONE, RTS0_RANGE, RTS0_RANGE_ALONE, WRITE_PSV0, ASSEMBLE, CALLS
@@ -1410,8 +1800,8 @@ enum call {
 /* The greatest refusal number of any call is below the one, the greatest place that is come by below the other. */
 enum { NUMBERS = 53, PLACES = 16 };
 
-/* A call and what it is handed; a signature part's number is its kind, and so is a range's. A writer's byte arguments lie end to end in
-   bytes, and pieces has their lengths. */
+/* A call and what it is handed; a signature part's number is its kind, and so is a range's; an occurrence is its number. A writer's byte
+   arguments lie end to end in bytes, and pieces has their lengths. */
 struct question {
     enum call call;
     const uint8_t *bytes;
@@ -1453,9 +1843,11 @@ __attribute__((noinline)) static size_t answer(const struct question *q, uint8_t
     switch (q->call) {
     case TABLE: ANSWER(qollqamir_parts, qollqamir_table(b, n))
     case TABLE_PART: ANSWER(qollqamir_found, qollqamir_table_part(b, n, four))
+    case TABLE_PART_OCCURRENCE: ANSWER(qollqamir_found, qollqamir_table_part_occurrence(b, n, four, i))
     case KNOWN: ANSWER(bool, qollqamir_known(four))
     case OPEN_DEFAULT: ANSWER(qollqamir_opening, qollqamir_open_default(b, n))
     case PART: ANSWER(qollqamir_found, qollqamir_part(b, n, e, four))
+    case PART_OCCURRENCE: ANSWER(qollqamir_found, qollqamir_part_occurrence(b, n, e, four, i))
     case PROGRAM: ANSWER(qollqamir_program_report, qollqamir_program(b, n, e))
     case SIGNATURE: ANSWER(qollqamir_signature_report, qollqamir_signature(b, n, e, k))
     case SIGNATURE_ELEMENT: ANSWER(qollqamir_signature_record, qollqamir_signature_element(b, n, e, k, i))
@@ -1490,7 +1882,8 @@ __attribute__((noinline)) static size_t answer(const struct question *q, uint8_t
     case RTS0_RANGE_ALONE: ANSWER(qollqamir_range_record, qollqamir_rts0_range_alone(b, n, i, k))
     case WRITE_PSV0:
         ANSWER(qollqamir_written, qollqamir_write_psv0(e, PIECE(0), PIECE(1), PIECE(2), PIECE(3), PIECE(4), PIECE(5), q->out, q->room))
-    case ASSEMBLE: ANSWER(qollqamir_written, qollqamir_assemble(PIECE(0), q->sizes, 2, PIECE(1), PIECE(2), q->out, q->room))
+    case ASSEMBLE:
+        ANSWER(qollqamir_written, qollqamir_assemble(PIECE(0), q->sizes, q->pieces[0] / 4, PIECE(1), PIECE(2), q->out, q->room))
     case CALLS: break;
     }
     return 0;
@@ -1532,9 +1925,29 @@ static struct refusal {
     bool paired;
 } refusals[CALLS][NUMBERS][PLACES];
 
+/* An assembled container shows the parts that it was made of, each found by its name and occurrence with its own data, zeros before headers
+   and nothing after the last part. */
+static void reads_back(const struct question *q, const uint8_t *out, size_t len) {
+    qollqamir_parts parts = read_table(out, len);
+    ACCEPTED(parts);
+    CHECK(parts.count == q->pieces[0] / 4);
+    size_t end = 32 + 4 * parts.count;
+    const uint8_t *data = q->bytes + q->pieces[0];
+    for (size_t i = 0; i < parts.count; i++) {
+        qollqamir_found found = qollqamir_table_part_occurrence(out, len, q->bytes + 4 * i, parts.occurrences[i]);
+        same_found(found, FOUND(i, parts.offsets[i], q->sizes[i]));
+        CHECK(found.offset % 4 == 0 && found.offset - end < 4 && memcmp(out + end, "\0\0", found.offset - end) == 0);
+        CHECK(memcmp(out + found.offset + 8, data, found.size) == 0);
+        data += found.size;
+        end = found.offset + 8 + found.size;
+    }
+    CHECK(end == len);
+}
+
 /* Asks twice and compares. The second time the stack and the answer's place hold another pattern, and the bytes, the output and the stack
-   are at other addresses: what stood in memory before would differ, and an address too. A refused answer is also compared with the first
-   that has the same call, number and place. */
+   are at other addresses: what stood in memory before would differ, and an address too. The bytes stay as they are. Beside a refusal all is
+   0; a refused answer is also compared with the first that has the same call, number and place. An accepted table and an assembled
+   container are checked as a whole. */
 static qollqamir_verdict ask(const struct question *question) {
     static const uint8_t patterns[4] = {0x00, 0xa5, 0xff, 0x5a};
     static uint8_t answers[2][sizeof(qollqamir_parts)], bytes[2][1000], outs[2][1000];
@@ -1551,6 +1964,9 @@ static qollqamir_verdict ask(const struct question *question) {
         memset(answers[i], pattern, sizeof answers[i]);
         fill(pattern);
         len = i == 0 ? answer(q, answers[i]) : answer_deeper(q, answers[i]);
+        if (question->bytes != NULL) {
+            same("bytes handed in", q->bytes, question->bytes, q->len);
+        }
     }
     asked++;
     same("answers", answers[0], answers[1], len);
@@ -1564,9 +1980,20 @@ static qollqamir_verdict ask(const struct question *question) {
     memcpy(&verdict, answers[0], sizeof verdict);
     if (verdict.number == 0) {
         accepted[q->call]++;
+        if (q->call == TABLE) {
+            qollqamir_parts parts;
+            memcpy(&parts, answers[0], sizeof parts);
+            table_holds(&parts, q->bytes, q->len);
+        } else if (q->call == ASSEMBLE) {
+            qollqamir_written written;
+            memcpy(&written, answers[0], sizeof written);
+            reads_back(q, outs[0], written.len);
+        }
         return verdict;
     }
     refused[q->call]++;
+    static const uint8_t zeros[sizeof(qollqamir_parts)];
+    same("a refused answer and zeros", answers[0] + sizeof verdict, zeros, len - sizeof verdict);
     CHECK(verdict.number < NUMBERS && verdict.place < PLACES);
     struct refusal *first = &refusals[q->call][verdict.number][verdict.place];
     if (first->answer_len == 0) {
@@ -1587,9 +2014,21 @@ static const struct question queries[] = {
     {.call = TABLE},
     {.call = TABLE_PART, .name = "PSV0"},
     {.call = TABLE_PART, .name = "VERS"},
+    {.call = TABLE_PART, .name = "PRIV"},
+    {.call = TABLE_PART_OCCURRENCE, .name = "PSV0", .number = 0},
+    {.call = TABLE_PART_OCCURRENCE, .name = "PSV0", .number = 1},
+    {.call = TABLE_PART_OCCURRENCE, .name = "PRIV", .number = 1},
+    {.call = TABLE_PART_OCCURRENCE, .name = "PRIV", .number = 2},
+    {.call = TABLE_PART_OCCURRENCE, .name = "PRIV", .number = SIZE_MAX},
     {.call = OPEN_DEFAULT},
     {.call = PART, .name = "PSV0"},
     {.call = PART, .name = "VERS"},
+    {.call = PART, .name = "PRIV"},
+    {.call = PART_OCCURRENCE, .name = "PSV0", .number = 0},
+    {.call = PART_OCCURRENCE, .name = "PSV0", .number = 1},
+    {.call = PART_OCCURRENCE, .name = "PRIV", .number = 1},
+    {.call = PART_OCCURRENCE, .name = "PRIV", .number = 2},
+    {.call = PART_OCCURRENCE, .name = "PRIV", .number = SIZE_MAX},
     {.call = PROGRAM},
     {.call = SIGNATURE, .kind = QOLLQAMIR_ISG1},
     {.call = SIGNATURE, .kind = QOLLQAMIR_OSG1},
@@ -1643,6 +2082,15 @@ static const struct question queries[] = {
 };
 enum { QUERIES = sizeof queries / sizeof *queries };
 
+/* A call that takes no occurrence means the first part. */
+static void ask_first(struct question q) {
+    uint8_t answers[2][sizeof(qollqamir_found)];
+    answer(&q, answers[0]);
+    q.call++;
+    q.number = 0;
+    same("the first part and occurrence 0", answers[0], answers[1], answer(&q, answers[1]));
+}
+
 /* Every query of a container, or of PSV0 data alone, at every edition and one that there is not. */
 static void ask_reader(struct question file) {
     bool alone = file.call == PSV0_OPEN;
@@ -1657,6 +2105,9 @@ static void ask_reader(struct question file) {
             q.len = file.len;
             q.edition = edition;
             ask(&q);
+            if (q.call == TABLE_PART || q.call == PART) {
+                ask_first(q);
+            }
         }
     }
 }
@@ -1750,6 +2201,41 @@ static size_t box_signed(uint8_t *out) {
     return written.len;
 }
 
+/* Private parts in a container, with every byte changed in turn; then another name twice among them, at each place. */
+static void ask_private(void) {
+    uint8_t bytes[512];
+    around(ask_reader, (struct question){.call = OPEN, .len = lay_out(bytes, two, 4, 2)}, bytes);
+    for (int box = 0; box < 2; box++) {
+        const struct entry *entries = box == 0 ? two : three;
+        uint32_t count = box == 0 ? 4 : 6;
+        struct question q = {.call = OPEN, .bytes = bytes, .len = lay_out(bytes, entries, count, box == 0 ? 2 : 0)};
+        ask_reader(q);
+        for (uint32_t i = 1 + (uint32_t)box; i < count; i++) {
+            put(bytes + entries[i].offset, "DXIL", 4);
+            ask_reader(q);
+            put(bytes + entries[i].offset, entries[i].name, 4);
+        }
+    }
+    static const uint32_t sizes[4] = {3, 4, 0, 5};
+    static const size_t lengths[3] = {16, 12, 16};
+    static const char *const names[] = {"PRIVDXILPRIVPRIV", "PRIVPRIVDXILDXIL", "DXILPRIVDXILPRIV", "PRIVPRIVPRIVPRIV"};
+    for (int k = 0; k < 4; k++) {
+        size_t n = put(bytes, names[k], 16);
+        n += put(bytes + n, "abccodefghij0123456789abcdef", 28);
+        around(ask_writer, (struct question){.call = ASSEMBLE, .len = n, .pieces = lengths, .sizes = sizes, .room = 93}, bytes);
+    }
+}
+
+/* Whether a call gave a number, at any place. */
+static bool gave(enum call call, size_t number) {
+    for (size_t place = 0; place < PLACES; place++) {
+        if (refusals[call][number][place].answer_len > 0) {
+            return true;
+        }
+    }
+    return false;
+}
+
 static void test_every_byte(void) {
     static const char *const names[] = {"DXIL", "VERS", "XXXX", "dxil"};
     for (int i = 0; i < 4; i++) {
@@ -1796,6 +2282,14 @@ static void test_every_byte(void) {
         n = shader_with(bytes, psv0, box_m(psv0, 24, 24), "RTS0", items, sizeof items);
         around(ask_reader, (struct question){.call = OPEN, .len = n}, bytes);
     }
+    ask_private();
+    /* The calls on parts gave every number that they can and no other; 2 takes a longer file, which test_greatest_length has. */
+    for (size_t number = 1; number < NUMBERS; number++) {
+        bool in_table = number <= 9 && number != 2, opening = in_table || (number >= 10 && number <= 25);
+        CHECK(gave(TABLE, number) == in_table);
+        CHECK(gave(TABLE_PART, number) == (in_table || number == 26) && gave(TABLE_PART_OCCURRENCE, number) == (in_table || number == 26));
+        CHECK(gave(PART, number) == (opening || number == 26) && gave(PART_OCCURRENCE, number) == (opening || number == 26));
+    }
     for (int call = 0; call < CALLS; call++) {
         CHECK(accepted[call] > 0 && refused[call] > 0);
         bool signature = (call >= SIGNATURE && call <= SIGNATURE_DIFFERENCE) || (call >= SG1_READ && call <= SG1_NAME);
@@ -1805,7 +2299,7 @@ static void test_every_byte(void) {
         }
         CHECK(!signature || refusals[call][52][0].answer_len > 0);
     }
-    CHECK(triples >= 950);
+    CHECK(triples >= 1050);
     printf("c answers: %zu calls made twice; %zu refused answers equal to that of another file, of %zu calls, numbers and places\n", asked,
            paired, triples);
 }
@@ -1861,7 +2355,7 @@ static void test_null(void) {
     REFUSED(qollqamir_assemble(NULL, 0, NULL, 0, NULL, 0, digest, 16, NULL, 0), 28, 0);
     qollqamir_written written = qollqamir_assemble(NULL, 0, NULL, 0, NULL, 0, digest, 16, out, sizeof out);
     ACCEPTED(written);
-    CHECK(written.len == 32 && qollqamir_table(out, 32).verdict.number == 0);
+    CHECK(written.len == 32 && read_table(out, 32).verdict.number == 0);
     const uint32_t size = 0;
     REFUSED(qollqamir_assemble(NULL, 0, &size, 1, NULL, 0, digest, 16, out, sizeof out), 27, 0);
     written = qollqamir_assemble(name("DXIL"), 4, &size, 1, NULL, 0, digest, 16, out, sizeof out);
@@ -1874,6 +2368,11 @@ int main(void) {
     test_box_c();
     test_last_entries();
     test_writers();
+    test_private();
+    test_repeated();
+    test_many_private();
+    test_assembled_private();
+    test_greatest_length();
     test_strings();
     test_program();
     test_signature();

@@ -7,10 +7,10 @@ ghost use mathlib.Core.Path.{_≡_};
 ghost use mathlib.Core.List.{_++_};
 ghost use Prim.Native.Nat.{_+_, _*_, _≤_, _<_};
 ghost use lib.Dec.{eqb};
-ghost use lib.ListN.{length, replicate};
+ghost use lib.ListN.{length, getD, replicate};
 ghost use Rattle.wire.specs.Number.{u32At, le32};
 ghost use Rattle.wire.specs.Verdict.{each};
-ghost use Rattle.part_table_layout.specs.Table.{nameJudged};
+ghost use Rattle.part_table_layout.specs.Table.{mayStand, nameJudged};
 ghost use Rattle.assembler_layout.specs.Assembled.{total, roundUp, fileLength, offsetsFrom, assembled, partsRight};
 ghost use Rattle.assembler_layout.specs.Answer.{given, answer, output, sized, Passed, headerBytes, frontBytes};
 
@@ -53,7 +53,19 @@ fn parts_right(names: &[u8], sizes: &[u32], data: &[u8], digest: &[u8]) -> bool
     sums_to(sizes, data.len())
 }
 
-// No name stands twice among the n names: refusal 9.
+// Whether a part with this name may stand after the first n, whose names were seen.
+fn may_stand(seen: &[u32; 96], n: usize, name: u32) -> bool
+    requires { ⌜ n ≤ 96 ⌝ }
+    ensures { λ r. ⌜ r ≡ mayStand (λ k. getD (now (seen .entry)) k 0) name n ⌝ }
+{
+    let found = part_table::find_name(seen, n, name);
+    match found {
+        Found::At(_) => part_table::may_repeat(name),
+        Found::Nothing => true,
+    }
+}
+
+// No name that may not repeat stands twice among the n names: refusal 9.
 fn judge_names(names: &[u8], n: usize) -> Verdict
     requires { ⌜ n ≤ 96 ⌝ }
     ensures { λ r. ⌜ r ≡ each (nameJudged (λ k. u32At (now (names .entry)) (4 * k))) n ⌝ }
@@ -62,8 +74,7 @@ fn judge_names(names: &[u8], n: usize) -> Verdict
     let mut i = 0;
     while i < n {
         let name = wire::u32_at(names, 4 * i);
-        let found = part_table::find_name(&seen, i, name);
-        if let Found::At(_) = found {
+        if !may_stand(&seen, i, name) {
             return Verdict::Refused(9, i);
         }
         seen[i] = name;

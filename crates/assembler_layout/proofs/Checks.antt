@@ -1,8 +1,8 @@
 -- The checks of an assembly at numbers that the code holds.
 -- Assumes nothing.
 use Prim.Native.Nat.{ℕ, zero, suc, _+_, _*_, _≤_, _<_}
-use mathlib.Core.Path.{_≡_, refl, sym, _∙_}
-use mathlib.Core.Bool.{true, false}
+use mathlib.Core.Path.{_≡_, sym, _∙_}
+use mathlib.Core.Bool.{Bool, true, false}
 use mathlib.Core.List.{List}
 use native.Mathlib.Numerals.{add-one}
 use native.Mathlib.Omega.{arith}
@@ -10,18 +10,13 @@ use lib.Dec.{eqb}
 use lib.ListN.{length, getD, take, set}
 use lib.Seq.{take-length}
 use borrow.Author.Tests.{eq-eqb, ne-eqb, le-leb, lt-leb}
-use Rattle.wire.specs.Search.{first}
 use Rattle.wire.specs.Verdict.{_then_, check, each}
 use Rattle.wire.specs.declared.Verdict.{Verdict}
 use Rattle.wire.specs.declared.Verdict.the-variants.{Accepted, Refused}
 use Rattle.wire.proofs.Verdicts.{each-stop, each-next}
-use Rattle.part_table_layout.specs.Lookup.{foundBelow, foundIn}
-use Rattle.part_table_layout.specs.Table.{hasName, nameJudged, filled}
-use Rattle.part_table_layout.specs.declared.Found.{Found}
-use Rattle.part_table_layout.specs.declared.Found.the-variants.{At, Nothing}
-use Rattle.part_table_layout.proofs.Filled.{filled-more}
-use Rattle.part_table_layout.proofs.Judged.{stood, fresh}
-use Rattle.part_table_layout.proofs.Lookups.{found-in-filled, at-told, nothing-told}
+use Rattle.part_table_layout.specs.Table.{mayStand, nameJudged, filled}
+use Rattle.part_table_layout.proofs.Filled.{filled-more, filled-below}
+use Rattle.part_table_layout.proofs.Judged.{stand-agree, name-refused, name-accepted}
 use Rattle.assembler_layout.specs.Assembled.{Parts, total, partCount, nameGiven, endBefore, fileLength, partsRight, assemblyJudged}
 use Rattle.assembler_layout.specs.Answer.{answer}
 use Rattle.assembler_layout.specs.declared.Assembly.{Assembly}
@@ -47,21 +42,17 @@ module _ (l : List ℕ) (i left sum : ℕ) (h : left + total (take i l) ≡ sum)
       go zero e = sym (eq-eqb (total l) sum (omega arith))
       go (suc n) e = ne-eqb (suc n) 0 (λ q. omega arith) ∙ sym (ne-eqb (total l) sum (λ q. omega arith))
 
--- ---- name i, x, was looked up among those before it, with the answer r
-module _ (f : ℕ → ℕ) {i n x : ℕ} {l : List ℕ} {r : Found}
-    (few : n ≤ 96) (less : i < n) (e : x ≡ f i) (seen : l ≡ filled f i) (h : r ≡ foundIn l i x) (a : each (nameJudged f) i ≡ Accepted) where
-  looked : r ≡ foundBelow i (first (hasName f (f i)) i)
-  looked = h ∙ rw (seen, e) (found-in-filled f i (f i) (omega arith))
+-- ---- name i, x, was judged by those before it, with the answer t
+module _ (f : ℕ → ℕ) {i n x : ℕ} {l : List ℕ} {t : Bool}
+    (few : n ≤ 96) (less : i < n) (e : x ≡ f i) (seen : l ≡ filled f i) (h : t ≡ mayStand (λ k. getD l k 0) x i) (a : each (nameJudged f) i ≡ Accepted) where
+  stands : t ≡ mayStand f (f i) i
+  stands = h ∙ rw (seen, e) (stand-agree (λ k. getD (filled f i) k 0) f (f i) i (λ j m. filled-below f i j (omega arith) m))
 
-  pub name-stood : {k : ℕ} → r ≡ At k → Refused 9 i ≡ each (nameJudged f) n
-  name-stood q =
-      let t = at-told i (first (hasName f (f i)) i) _ _ refl (sym looked ∙ q) in
-      sym (each-stop _ i n 9 i less a (stood f i refl (t .1)))
+  pub name-stood : t ≡ false → Refused 9 i ≡ each (nameJudged f) n
+  name-stood q = sym (each-stop _ i n 9 i less a (name-refused f i stands q))
 
-  pub name-fresh : r ≡ Nothing → each (nameJudged f) (i + 1) ≡ Accepted
-  name-fresh q =
-      let t = nothing-told i (first (hasName f (f i)) i) _ refl (sym looked ∙ q) in
-      rw add-one (each-next _ i a (fresh f i refl t))
+  pub name-fresh : t ≡ true → each (nameJudged f) (i + 1) ≡ Accepted
+  name-fresh q = rw add-one (each-next _ i a (name-accepted f i stands q))
 
   pub name-seen : set l i x ≡ filled f (i + 1)
   name-seen = rw seen (filled-more f i e)

@@ -79,5 +79,5 @@ module _ (g : Parts) (s : Sound g) where
             record { start = rw (e, o) (start-after g k); inside = omega arith };
         fresh = λ k l.
             let h = rw count-is at l in
-            record { new = λ j m e. s .fresh k h .new j m (sym (name-is j (omega arith)) ∙ e ∙ name-is k h) };
+            record { new = λ r j m e. s .fresh k h .new (rw (name-is k h) at r) j m (sym (name-is j (omega arith)) ∙ e ∙ name-is k h) };
       }

@@ -7,8 +7,12 @@ use mathlib.Core.List.{List}
 use native.Mathlib.Omega.{arith}
 use lib.ListN.{length, take, drop, replicate}
 use Rattle.wire.specs.declared.Verdict.the-variants.{Accepted}
-use Rattle.part_table_layout.specs.Table.{countOf, offsetAt, nameAt, sizeAt, dataAt, earliest, tableJudged}
+use Rattle.wire.proofs.Sums.{count-agree}
+use Rattle.part_table_layout.specs.Lookup.{findOccurrence, occurrenceData}
+use Rattle.part_table_layout.specs.Table.{priv, borne, occurrenceAt, countOf, offsetAt, nameAt, sizeAt, dataAt, earliest, tableJudged}
+use Rattle.part_table_layout.specs.declared.Found.the-variants.{At}
 use Rattle.part_table_layout.proofs.Accepted.{accepted-is}
+use Rattle.part_table_layout.proofs.Lookups.{found-by-occurrence, data-shown}
 use Rattle.assembler_layout.specs.Assembled.{Parts, partCount, sizeGiven, nameGiven, nameBytes, dataGiven, endBefore, startOf, fileLength, assembled, assemblyJudged}
 use Rattle.assembler_layout.proofs.Joined.{joined, joined-agree, data-joined, names-joined}
 use Rattle.assembler_layout.proofs.Lengths.{Sound, accepted-told, rounded, earliest-multiple}
@@ -25,6 +29,10 @@ pub record PartReads (g : Parts) (b : List ℕ) (k : ℕ) : Type 0 where
   -- "Parts start at multiples of 4, as early as possible"
   pub multiple : offsetAt b k % 4 ≡ 0
   pub early : (s : ℕ) → earliest b k ≤ s → s % 4 ≡ 0 → offsetAt b k ≤ s
+  -- the part is found again by its name and its occurrence among the names that were given
+  pub occurrence : occurrenceAt (nameAt b) k ≡ occurrenceAt (nameGiven g) k
+  pub found : findOccurrence b (nameGiven g k) (occurrenceAt (nameGiven g) k) ≡ At k
+  pub foundData : occurrenceData b (nameGiven g k) (occurrenceAt (nameGiven g) k) ≡ dataGiven g k
   -- "filler is zero"
   pub filler : take (offsetAt b k - earliest b k) (drop (earliest b k) b) ≡ replicate (offsetAt b k - earliest b k) 0
 
@@ -40,20 +48,29 @@ pub record ReadsBack (g : Parts) (b : List ℕ) : Type 0 where
   -- "The file ends with the last part's data": there is nothing after the last part
   pub last : earliest b (countOf b) ≡ length b
 
+occurrence-is : (g : Parts) → Sound g → (k : ℕ) → k < partCount g → occurrenceAt (nameAt (assembled g)) k ≡ occurrenceAt (nameGiven g) k
+occurrence-is g s k h = rw (name-is g s k h) (count-agree _ _ k (λ j l. let e = name-is g s j (omega arith) in rw e))
+
 part-reads : (g : Parts) → Sound g → (k : ℕ) → k < partCount g → PartReads g (assembled g) k
 unfolding dataAt
 part-reads g s k h =
     let o = offset-is g s k h in
     let z = size-is g s k h in
     let e = earliest-is g s k (omega arith) in
+    let t = accepted-is (assembled g) (sound-is g s) in
+    let l : k < countOf (assembled g) = rw (count-is g s) h in
+    let c : dataAt (assembled g) k ≡ dataGiven g k = rw (z, o) (data-read g (s .right) k h) in
     record {
       name = name-is g s k h;
       bytesOfName = rw o (name-bytes-read g (s .right) k h);
       offset = o;
       size = z;
-      content = rw (z, o) (data-read g (s .right) k h);
+      content = c;
       multiple = rw o (rounded (endBefore g k));
       early = λ t l. rw o (earliest-multiple (endBefore g k) t (rw e at l));
+      occurrence = occurrence-is g s k h;
+      found = rw (← occurrence-is g s k h, ← name-is g s k h) (found-by-occurrence (assembled g) k l);
+      foundData = rw (← occurrence-is g s k h, ← name-is g s k h) (data-shown (assembled g) t k l) ∙ c;
       filler = rw (o, e) (filler-read g (s .right) k h);
     }
 
@@ -71,3 +88,10 @@ round-trip g room h =
       contents = rw c (joined-agree _ _ (partCount g) (λ k l. part-reads g s k l .content) ∙ data-joined g (s .right));
       last = rw c (earliest-is g s (partCount g) (omega arith)) ∙ sym (long-is g s);
     }
+
+-- Document 02, Ask 8: of several PRIV parts each is found again by how many of them were given before it, with its own data
+pub private-found : (g : Parts) (room : ℕ) → assemblyJudged g room ≡ Accepted → (k : ℕ) → k < partCount g → nameGiven g k ≡ priv
+    → (findOccurrence (assembled g) priv (borne (nameGiven g) priv k) ≡ At k) × (occurrenceData (assembled g) priv (borne (nameGiven g) priv k) ≡ dataGiven g k)
+private-found g room h k l e =
+    let p = round-trip g room h .part k l in
+    (rw e at (p .found), rw e at (p .foundData))

@@ -265,6 +265,66 @@ fn refused_9() {
     digested(b"9 before 28", b"AAAAAAAA", &[0u32; 2], b"", 0);
 }
 
+// PRIV may stand more than once; no other name may beside it.
+fn several_private() {
+    digested(
+        b"PRIV again at 2 and 3",
+        b"PRIVDXILPRIVPRIV",
+        &[1u32, 0, 2, 3],
+        b"122333",
+        2048,
+    );
+    digested(
+        b"name 1 again at 3, PRIV at 2",
+        b"PRIVDXILPRIVDXIL",
+        &[0u32; 4],
+        b"",
+        2048,
+    );
+    digested(b"priv again at 1", b"privpriv", &[0u32; 2], b"", 2048);
+    digested(b"PRIV again, 28", b"PRIVPRIV", &[0u32; 2], b"", 55);
+}
+
+// One name for each of 96 parts.
+fn name_all(names: &mut [u8; 384], name: u32) {
+    let mut k: u32 = 0;
+    while k < 96 {
+        wire::put_u32(names, 4 * (k as usize), name);
+        k += 1;
+    }
+}
+
+fn same_names(names: &[u8; 384]) {
+    digested(b"96 PRIV", names, &[0u32; 96], b"", 2048);
+}
+
+fn all_private() {
+    let mut names = [0u8; 384];
+    name_all(&mut names, wire::u32_at(b"PRIV", 0));
+    same_names(&names);
+}
+
+// The data of the PRIV parts of an assembly, by their occurrences; nothing past the last.
+fn each_private() {
+    let mut out = [170u8; 91];
+    assembler::assemble(
+        b"PRIVDXILPRIVPRIV",
+        &[1u32, 0, 2, 3],
+        b"122333",
+        b"0123456789abcdef",
+        &mut out,
+    );
+    print(b"PRIV 0 to 3: ");
+    print(part_table::part_data_occurrence(&out, b"PRIV", 0));
+    print(b" ");
+    print(part_table::part_data_occurrence(&out, b"PRIV", 1));
+    print(b" ");
+    print(part_table::part_data_occurrence(&out, b"PRIV", 2));
+    print(b" ");
+    print(part_table::part_data_occurrence(&out, b"PRIV", 3));
+    print(b"\n");
+}
+
 fn outputs() {
     digested(b"no part in 31", b"", &[0u32; 0], b"", 31);
     digested(b"no part in 32", b"", &[0u32; 0], b"", 32);
@@ -340,6 +400,9 @@ fn main() {
     refused_27();
     refused_6();
     refused_9();
+    several_private();
+    all_private();
+    each_private();
     outputs();
     sizes();
     bytes();

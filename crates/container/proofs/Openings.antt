@@ -11,7 +11,7 @@ use borrow.Author.Tests.{le-leb, lt-leb, lt-ltb, le-ltb}
 use Rattle.wire.specs.Verdict.{_then_, check}
 use Rattle.wire.specs.declared.Verdict.{Verdict}
 use Rattle.wire.specs.declared.Verdict.the-variants.{Accepted, Refused}
-use Rattle.part_table_layout.specs.Lookup.{find, partAt, partOf}
+use Rattle.part_table_layout.specs.Lookup.{find, partAt, occurrenceOf, partOf}
 use Rattle.part_table_layout.specs.Table.{countOf, tableJudged}
 use Rattle.part_table_layout.specs.Three.{threeOf}
 use Rattle.part_table_layout.specs.declared.Found.{Found}
@@ -19,7 +19,7 @@ use Rattle.part_table_layout.specs.declared.Found.the-variants.{At, Nothing}
 use Rattle.part_table_layout.specs.declared.Part.{Part}
 use Rattle.part_table_layout.specs.declared.ThreeParts.{ThreeParts}
 use Rattle.part_table_layout.proofs.Accepted.{part-inside, accepted-told}
-use Rattle.part_table_layout.proofs.Lookups.{find-told}
+use Rattle.part_table_layout.proofs.Lookups.{find-told, first-occurrence}
 use Rattle.part_table_layout.proofs.Threes.{three-verdict, three-first, three-second, three-count}
 use Rattle.container_layout.specs.Container.{dxil, psv0, isThere, startFound, sizeFound, beforePsv}
 use Rattle.container.specs.Opened.{psvPartOf}
@@ -50,8 +50,8 @@ module _ (k : ℕ) (b : List ℕ) (y : ℕ) {t : ThreeParts} (ht : t ≡ threeOf
     ok = judged h
 
     looked-up : (x : ℕ) {p : Part} → p ≡ partOf b x → p ≡ partAt b (find b x)
-    unfolding partOf
-    looked-up x e = let q = ok in e ∙ rw q
+    unfolding occurrenceOf
+    looked-up x e = let q = ok in e ∙ rw (q, first-occurrence b x)
 
     size-is : (f : Found) → partAt b f .size ≡ sizeFound b f
     size-is (At i) = refl

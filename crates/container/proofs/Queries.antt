@@ -13,7 +13,7 @@ use Rattle.wire.specs.Number.{u32At}
 use Rattle.wire.specs.Verdict.{_then_, check}
 use Rattle.wire.specs.declared.Verdict.{Verdict}
 use Rattle.wire.specs.declared.Verdict.the-variants.{Accepted, Refused}
-use Rattle.part_table_layout.specs.Lookup.{find, refusedPart, partAt, partIf, partOf}
+use Rattle.part_table_layout.specs.Lookup.{find, findOccurrence, refusedPart, partAt, partIf, occurrenceOf, partOf}
 use Rattle.part_table_layout.specs.Table.{countOf, dataAt}
 use Rattle.part_table_layout.specs.declared.Part.{Part}
 use Rattle.part_table_layout.specs.declared.Found.{Found}
@@ -31,7 +31,7 @@ use Rattle.psv0_layout.specs.Judged.{opened}
 use Rattle.psv0_layout.specs.Layout.{editionRead}
 use Rattle.psv0_layout.specs.Shown.{Value, unset, Question, queried, answered}
 use Rattle.psv0_layout.proofs.Positions.{part-part}
-use Rattle.container_layout.specs.Container.{psv0, isThere, startFound, sizeFound, dataFound, psvOf, beforePsv, containerJudged, containerAnswered, containerPart}
+use Rattle.container_layout.specs.Container.{psv0, isThere, startFound, sizeFound, dataFound, psvOf, beforePsv, containerJudged, containerAnswered, containerPart, containerOccurrence}
 use Rattle.container_layout.proofs.Containers.{before-told, opens-alone, shows-alone, refuses-before, shows-nothing}
 use Rattle.container.specs.Opened.{psvPartOf, refusedOpening, openingIf, movedSpan, partBeside, containerOpeningOf}
 use Rattle.container.specs.declared.ContainerOpening.{ContainerOpening}
@@ -122,7 +122,7 @@ module _ (k : ℕ) (b : List ℕ) {p : PsvPart} (hp : p ≡ psvPartOf k b) where
     no-section l e = rw (refuses-before k b (before-is h), e) (refused-shows b n q)
 
     pub no-part : (x : ℕ) → refusedPart (Refused n q) ≡ containerPart k b x
-    unfolding containerPart
+    unfolding containerOccurrence
     no-part x = let e = refuses-before k b (before-is h) in rw e
 
 -- ---- an opening
@@ -194,23 +194,23 @@ module _ (k : ℕ) (b : List ℕ) {p : PsvPart} (hp : p ≡ psvPartOf k b) (a : 
       rw (← o, ← y) (moved-shows (opened k d) h e)
 
 -- ---- one part
-part-beside : (v : Verdict) (b : List ℕ) (x : ℕ) → partBeside v (partAt b (find b x)) ≡ partIf v b x
+part-beside : (v : Verdict) (b : List ℕ) (x : ℕ) → partBeside v (partAt b (findOccurrence b x 0)) ≡ partIf v b x 0
 part-beside Accepted b x = refl
 part-beside (Refused n q) b x = refl
 
 pub part-is : (k : ℕ) (b : List ℕ) {p : PsvPart} → p ≡ psvPartOf k b → p .verdict ≡ Accepted
     → {d : List ℕ} → d ≡ psvOf b → {v : Verdict} → v ≡ opened k d → (x : ℕ) {q : Part} → q ≡ partOf b x
     → partBeside v q ≡ containerPart k b x
-unfolding containerPart
+unfolding containerOccurrence
 part-is k b hp a {d} e {v} hv x hq =
     let f = before-is k b hp a in
     let z = before-told k b f .table in
     let o : v ≡ containerJudged k b = hv ∙ rw e (sym (opens-alone k b f)) in
-    let q : partOf b x ≡ partAt b (find b x) = unfold partOf in rw z in
+    let q : partOf b x ≡ partAt b (findOccurrence b x 0) = unfold occurrenceOf in rw z in
     rw (o, hq, q) (part-beside (containerJudged k b) b x)
 
 pub no-edition-part : (k : ℕ) (b : List ℕ) (x : ℕ) → 3 < k → refusedPart (Refused 25 0) ≡ containerPart k b x
-unfolding containerPart containerJudged beforePsv check _then_
+unfolding containerOccurrence containerJudged beforePsv check _then_
 no-edition-part k b x h = simp (lt-leb _ _ h)
 
 -- ---- what an opening shows

@@ -21,7 +21,7 @@ ghost use Rattle.psv0_layout.specs.Answers.{infoAnswerOf, resourceAnswerOf, ele
 ghost use Rattle.psv0_layout.specs.Handed.{handed};
 ghost use Rattle.psv0_layout.specs.Layout.{editionRead, defaultEdition};
 ghost use Rattle.psv0_layout.specs.Shown.{queried};
-ghost use Rattle.container_layout.specs.Container.{dxil, psv0, psvOf, containerJudged, containerAnswered, containerPart, partDataOf};
+ghost use Rattle.container_layout.specs.Container.{dxil, psv0, psvOf, containerJudged, containerAnswered, containerPart, containerOccurrence, partDataOf, occurrenceDataOf};
 ghost use Rattle.container.specs.Opened.{psvPartOf, refusedOpening, openingIf, movedSpan, partBeside, containerOpeningOf};
 
 // The verdict of an opening, the number of parts, the file's edition and the edition read. A refusal has zeros.
@@ -78,7 +78,7 @@ fn psv0_in(b: &[u8], t: ThreeParts, x: u32, edition: usize) -> PsvPart
     }
 }
 
-// The parts DXIL and PSV0, and the part with the name x: no table is built.
+// The parts DXIL and PSV0, and the first part with the name x: no table is built.
 fn parts_for(b: &[u8], x: u32) -> ThreeParts
     ensures { λ r. ⌜ r ≡ threeOf (now (b .entry)) dxil psv0 x ⌝ }
 {
@@ -281,7 +281,7 @@ fn part_under(v: Verdict, p: Part) -> Part
     }
 }
 
-// One part by its name: its number, where its header starts and its data size.
+// The first part with a name: its number, where its header starts and its data size.
 pub fn part(b: &[u8], edition: usize, name: &[u8; 4]) -> Part
     ensures { λ r. ⌜ r ≡ containerPart edition (now (b .entry)) (u32At (now (name .entry)) 0) ⌝ }
 {
@@ -303,11 +303,23 @@ pub fn part(b: &[u8], edition: usize, name: &[u8; 4]) -> Part
     part_under(judged, asked)
 }
 
-// The data of one part, a part of the caller's slice: no bytes where the query refuses.
-pub fn part_bytes<'a>(b: &'a [u8], edition: usize, name: &[u8; 4]) -> &'a [u8]
-    ensures { λ r. ⌜ now r ≡ partDataOf edition (now (b .entry)) (u32At (now (name .entry)) 0) ⌝ }
+// The part with a name and an occurrence.
+pub fn part_occurrence(b: &[u8], edition: usize, name: &[u8; 4], occurrence: usize) -> Part
+    ensures { λ r. ⌜ r ≡ containerOccurrence edition (now (b .entry)) (u32At (now (name .entry)) 0) occurrence ⌝ }
 {
-    let p = part(b, edition, name);
+    part_table::later_part(b, wire::u32_at(name, 0), part(b, edition, name), occurrence)
+}
+
+// The data of one part, a part of the caller's slice: no bytes where the query refuses.
+pub fn part_bytes_occurrence<'a>(
+    b: &'a [u8],
+    edition: usize,
+    name: &[u8; 4],
+    occurrence: usize,
+) -> &'a [u8]
+    ensures { λ r. ⌜ now r ≡ occurrenceDataOf edition (now (b .entry)) (u32At (now (name .entry)) 0) occurrence ⌝ }
+{
+    let p = part_occurrence(b, edition, name, occurrence);
     let offset = p.offset;
     let size = p.size;
     let v = p.verdict;
@@ -319,4 +331,11 @@ pub fn part_bytes<'a>(b: &'a [u8], edition: usize, name: &[u8; 4]) -> &'a [u8]
             &b[start..end]
         }
     }
+}
+
+// The data of the first part with a name.
+pub fn part_bytes<'a>(b: &'a [u8], edition: usize, name: &[u8; 4]) -> &'a [u8]
+    ensures { λ r. ⌜ now r ≡ partDataOf edition (now (b .entry)) (u32At (now (name .entry)) 0) ⌝ }
+{
+    part_bytes_occurrence(b, edition, name, 0)
 }

@@ -11,7 +11,7 @@ use Rattle.wire.specs.Verdict.{_then_, check, when, from, each}
 use Rattle.wire.specs.declared.Verdict.{Verdict}
 use Rattle.wire.specs.declared.Verdict.the-variants.{Accepted, Refused}
 use Rattle.part_table_layout.specs.Lookup.{find}
-use Rattle.part_table_layout.specs.Table.{countOf, offsetAt, nameAt, sizeAt, dataAt, endAt, earliest, partJudged, nameJudged, headerJudged, partsJudged, tableJudged}
+use Rattle.part_table_layout.specs.Table.{countOf, offsetAt, nameAt, sizeAt, dataAt, endAt, earliest, partJudged, mayRepeat, mayStand, nameJudged, headerJudged, partsJudged, tableJudged}
 use Rattle.utf8_layout.specs.Sequence.{table, fits, front, more, after, counted as sequencesOf, wellFormed, codePoints}
 use Rattle.psv0_layout.specs.Field.{words, maskWords, sum}
 use Rattle.psv0_layout.specs.Judged.{headJudged, fieldsJudged, bodyFits, elementJudged, elementsJudged, entryJudged, judgedAt}
@@ -125,5 +125,5 @@ said =
     ∷ []
 
 pub boxes-hold : given ≡ said
-unfolding u16At u32At _then_ check when from each find countOf offsetAt nameAt sizeAt dataAt endAt earliest partJudged nameJudged headerJudged partsJudged tableJudged maskWords sum headJudged fieldsJudged bodyFits elementJudged elementsJudged entryJudged judgedAt counted afterCounted countedFits records afterRecords recordsFit rows sections bodyOf seen hasZero untilZero table fits front more after sequencesOf wellFormed codePoints stringEnds stringGood stringAt indexGood arrayAt value shownAt psvOf beforePsv containerJudged containerAnswered
+unfolding u16At u32At _then_ check when from each find countOf offsetAt nameAt sizeAt dataAt endAt earliest partJudged mayRepeat mayStand nameJudged headerJudged partsJudged tableJudged maskWords sum headJudged fieldsJudged bodyFits elementJudged elementsJudged entryJudged judgedAt counted afterCounted countedFits records afterRecords recordsFit rows sections bodyOf seen hasZero untilZero table fits front more after sequencesOf wellFormed codePoints stringEnds stringGood stringAt indexGood arrayAt value shownAt psvOf beforePsv containerJudged containerAnswered
 boxes-hold = refl

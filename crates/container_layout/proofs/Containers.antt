@@ -12,14 +12,14 @@ use borrow.Author.Tests.{le-leb}
 use Rattle.wire.specs.Number.{u32At}
 use Rattle.wire.specs.Verdict.{_then_, check}
 use Rattle.wire.specs.declared.Verdict.the-variants.{Accepted, Refused}
-use Rattle.wire.proofs.Searches.{first-agree}
 use Rattle.wire.proofs.Verdicts.{check-then, check-accepted, then-accepted, accepted-then, checked}
-use Rattle.part_table_layout.specs.Lookup.{find}
-use Rattle.part_table_layout.specs.Table.{hasName, countOf, nameAt, dataAt, tableJudged}
+use Rattle.part_table_layout.specs.Lookup.{find, findOccurrence}
+use Rattle.part_table_layout.specs.Table.{mayRepeat, countOf, nameAt, dataAt, tableJudged}
 use Rattle.part_table_layout.specs.declared.Found.{Found}
 use Rattle.part_table_layout.specs.declared.Found.the-variants.{At, Nothing}
 use Rattle.part_table_layout.proofs.Accepted.{accepted-told, data-length}
-use Rattle.part_table_layout.proofs.Lookups.{find-told}
+use Rattle.part_table_layout.proofs.Lookups.{find-told, found-alone, first-occurrence}
+use Rattle.part_table_layout.proofs.Occurrences.{occurrence-agree}
 use Rattle.psv0_layout.specs.Judged.{judgedAt, opened}
 use Rattle.psv0_layout.specs.Layout.{editionRead}
 use Rattle.psv0_layout.specs.Shown.{unset, Question, answered}
@@ -36,6 +36,16 @@ data-short b Nothing = omega arith
 pub psv-short : (b : List ℕ) → tableJudged b ≡ Accepted → length (psvOf b) ≤ 16777216
 unfolding psvOf
 psv-short b h = le-trans (data-short b (find b psv0)) (accepted-told b h .header .short)
+
+-- ---- DXIL and PSV0 are found wherever they stand, whatever PRIV parts stand beside them: their names may not repeat
+module _ (b : List ℕ) (h : tableJudged b ≡ Accepted) (k : ℕ) (l : k < countOf b) where
+  pub program-found : nameAt b k ≡ dxil → find b dxil ≡ At k
+  unfolding mayRepeat u32At
+  program-found = found-alone b h dxil refl k l
+
+  pub psv0-found : nameAt b k ≡ psv0 → find b psv0 ≡ At k
+  unfolding mayRepeat u32At
+  psv0-found = found-alone b h psv0 refl k l
 
 -- ---- an opening that accepts, taken apart and put together
 pub record Before (k : ℕ) (b : List ℕ) : Type 0 where
@@ -91,11 +101,12 @@ module _ (k : ℕ) (b : List ℕ) where
 
 -- ---- what stays the same in a widening
 module _ (k : ℕ) (b b′ : List ℕ) (w : WiderContainer k b b′) where
+  pub occurrence-same : (x o : ℕ) → findOccurrence b′ x o ≡ findOccurrence b x o
+  unfolding findOccurrence
+  occurrence-same x o = rw (w .counts) (occurrence-agree (nameAt b′) (nameAt b) (countOf b) x o (w .names))
+
   pub find-same : (x : ℕ) → find b′ x ≡ find b x
-  unfolding find
-  find-same x =
-      let e = first-agree (hasName (nameAt b′) x) (hasName (nameAt b) x) (countOf b) (λ i l. let q = w .names i l in rw q) in
-      rw (w .counts, e)
+  find-same x = sym (first-occurrence b′ x) ∙ occurrence-same x 0 ∙ first-occurrence b x
 
   -- the DXIL part is there, and as long as it was
   pub program-same : tableJudged b ≡ Accepted → sizeFound b′ (find b′ dxil) ≡ sizeFound b (find b dxil)

@@ -2,7 +2,7 @@
 -- They hold of whatever judges the part's data, so that each report states them in a few lines.
 -- Assumes nothing.
 use Prim.Native.Nat.{ℕ, _+_, _-_, _≤_}
-use mathlib.Core.Path.{_≡_, refl, sym, _∙_}
+use mathlib.Core.Path.{_≡_, refl, sym, _∙_, ap}
 use mathlib.Core.Bool.{true, true≢false}
 use mathlib.Core.List.{List}
 use native.Mathlib.Omega.{arith}
@@ -14,16 +14,16 @@ use Rattle.wire.specs.Verdict.{_then_, check}
 use Rattle.wire.specs.declared.Verdict.{Verdict}
 use Rattle.wire.specs.declared.Verdict.the-variants.{Accepted, Refused}
 use Rattle.wire.proofs.Verdicts.{then-accepted, check-then, stop-then}
-use Rattle.part_table_layout.specs.Lookup.{find, partAt, partIf, dataIf}
+use Rattle.part_table_layout.specs.Lookup.{find, findOccurrence, partAt, partIf, dataIf}
 use Rattle.part_table_layout.specs.declared.Found.{Found}
 use Rattle.part_table_layout.specs.declared.Found.the-variants.{At, Nothing}
 use Rattle.part_table_layout.specs.declared.Part.{Part}
-use Rattle.part_table_layout.proofs.Lookups.{find-told}
+use Rattle.part_table_layout.proofs.Lookups.{first-occurrence, occurrence-told}
 use Rattle.psv0_layout.proofs.Positions.{part-part}
-use Rattle.container_layout.specs.Container.{psv0, isThere, startFound, dataFound, psvOf, containerJudged, containerPart, partDataOf}
+use Rattle.container_layout.specs.Container.{psv0, isThere, startFound, dataFound, psvOf, containerJudged, containerPart, containerOccurrence, occurrenceDataOf, partDataOf}
 use Rattle.container_layout.specs.Report.{dataNamed, reported}
 use Rattle.container_layout.specs.Widened.{WiderContainer}
-use Rattle.container_layout.proofs.Containers.{find-same}
+use Rattle.container_layout.proofs.Containers.{find-same, occurrence-same}
 use Rattle.container_layout.proofs.Demand3.{editions-agree, widening-kept}
 use Rattle.container_layout.proofs.Parts.{opens, shown-part, part-fits, part-data}
 
@@ -63,13 +63,17 @@ module _ (judge : List ℕ → Verdict) (x : ℕ) where
 
 -- ---- a widening keeps every part but PSV0, and so the report on it
 module _ (k : ℕ) (b b′ : List ℕ) (w : WiderContainer k b b′) (x : ℕ) (other : x ≡ psv0 → ⊥) where
+  -- its data, with any occurrence
+  pub occurrence-kept : (o : ℕ) → dataFound b′ (findOccurrence b′ x o) ≡ dataFound b (findOccurrence b x o)
+  occurrence-kept o = rw (occurrence-same k b b′ w x o) (go (findOccurrence b x o) refl)
+    where
+      go : (f : Found) → findOccurrence b x o ≡ f → dataFound b′ f ≡ dataFound b f
+      go Nothing e = refl
+      go (At i) e = let n = occurrence-told b x o i e in w .others i (n .listed) (λ q. other (sym (n .named) ∙ q))
+
   pub data-kept : dataNamed b′ x ≡ dataNamed b x
   unfolding dataNamed
-  data-kept = rw (find-same k b b′ w x) (go (find b x) refl)
-    where
-      go : (f : Found) → find b x ≡ f → dataFound b′ f ≡ dataFound b f
-      go Nothing e = refl
-      go (At i) e = let n = find-told b x i e in w .others i (n .listed) (λ q. other (sym (n .named) ∙ q))
+  data-kept = rw (← first-occurrence b′ x, ← first-occurrence b x) (occurrence-kept 0)
 
   pub report-kept : (judge : List ℕ → Verdict) → containerJudged k b ≡ Accepted → sizeOf k ≤ u32At (psvOf b) 0
       → reported judge x k b′ ≡ reported judge x k b
@@ -79,11 +83,14 @@ module _ (k : ℕ) (b b′ : List ℕ) (w : WiderContainer k b b′) (x : ℕ) (
 
 -- ---- the steps of the code: r is the part that was asked for
 module _ (k : ℕ) (b : List ℕ) (x : ℕ) {r : Part} (hr : r ≡ containerPart k b x) (h : r .verdict ≡ Accepted) where
+  first-part : r ≡ partAt b (find b x)
+  first-part = shown-part k b x 0 hr h ∙ ap (partAt b) (first-occurrence b x)
+
   there : partAt b (find b x) .verdict ≡ Accepted
-  there = rw (shown-part k b x hr h) at h
+  there = rw first-part at h
 
   pub starts-at : r .offset + 8 ≡ startFound b (find b x)
-  starts-at = rw (shown-part k b x hr h) (go (find b x) there)
+  starts-at = rw first-part (go (find b x) there)
     where
       go : (f : Found) → partAt b f .verdict ≡ Accepted → partAt b f .offset + 8 ≡ startFound b f
       go (At i) e = refl
@@ -91,8 +98,8 @@ module _ (k : ℕ) (b : List ℕ) (x : ℕ) {r : Part} (hr : r ≡ containerPart
 
 -- the data that the query for the part hands out, where the container opens
 pub opened-data : (k : ℕ) (b : List ℕ) (x : ℕ) → containerJudged k b ≡ Accepted → partDataOf k b x ≡ dataNamed b x
-unfolding partDataOf dataNamed containerPart
-opened-data k b x o = rw o (go (find b x))
+unfolding occurrenceDataOf dataNamed containerOccurrence
+opened-data k b x o = rw (o, first-occurrence b x) (go (find b x))
   where
     go : (f : Found) → dataIf (partAt b f .verdict) b (partAt b f .number) ≡ dataFound b f
     go (At i) = refl
@@ -100,12 +107,12 @@ opened-data k b x o = rw o (go (find b x))
 
 pub data-there : (k : ℕ) (b : List ℕ) (x : ℕ) {r : Part} → r ≡ containerPart k b x → r .verdict ≡ Accepted
     → take (r .offset + 8 + r .size - (r .offset + 8)) (drop (r .offset + 8) b) ≡ dataNamed b x
-data-there k b x hr h = part-data k b x hr h ∙ opened-data k b x (opens k b x hr h)
+data-there k b x hr h = part-data k b x 0 hr h ∙ opened-data k b x (opens k b x 0 hr h)
 
-part-verdict : (v : Verdict) (b : List ℕ) (x : ℕ) → partIf v b x .verdict ≡ (v then check (isThere (find b x)) 26 0)
+part-verdict : (v : Verdict) (b : List ℕ) (x : ℕ) → partIf v b x 0 .verdict ≡ (v then check (isThere (find b x)) 26 0)
 unfolding _then_ check
 part-verdict (Refused n p) b x = refl
-part-verdict Accepted b x = go (find b x)
+part-verdict Accepted b x = rw (first-occurrence b x) (go (find b x))
   where
     go : (f : Found) → partAt b f .verdict ≡ check (isThere f) 26 0
     go (At i) = refl
@@ -118,7 +125,7 @@ regroup (Refused n p) c v = refl
 
 module _ (judge : List ℕ → Verdict) (k : ℕ) (b : List ℕ) (x : ℕ) {r : Part} (hr : r ≡ containerPart k b x) where
   reported-is : reported judge x k b ≡ (r .verdict then judge (dataNamed b x))
-  unfolding reported containerPart
+  unfolding reported containerOccurrence
   reported-is = rw (hr, part-verdict (containerJudged k b) b x) (regroup (containerJudged k b) _ _)
 
   pub no-report : {n p : ℕ} → r .verdict ≡ Refused n p → Refused n p ≡ reported judge x k b
@@ -137,8 +144,8 @@ module _ (judge : List ℕ → Verdict) (x : ℕ) (k : ℕ) (b : List ℕ) (a : 
   reported-judged = there-judged .1
 
   part-there : containerPart k b x .verdict ≡ Accepted
-  unfolding containerPart
-  part-there = rw (reported-opens judge x k b a) (go (find b x) (there-judged .0))
+  unfolding containerOccurrence
+  part-there = rw (reported-opens judge x k b a, first-occurrence b x) (go (find b x) (there-judged .0))
     where
       go : (f : Found) → isThere f ≡ true → partAt b f .verdict ≡ Accepted
       go (At i) t = refl
@@ -154,10 +161,10 @@ module _ (judge : List ℕ → Verdict) (x : ℕ) (k : ℕ) (b : List ℕ) (a : 
 
   pub reported-size : length (dataNamed b x) ≡ containerPart k b x .size
   reported-size =
-      rw (← data-is) (length-take-le _ _ (let f = part-fits k b x refl part-there in rw length-drop (omega arith)))
+      rw (← data-is) (length-take-le _ _ (let f = part-fits k b x 0 refl part-there in rw length-drop (omega arith)))
 
   pub reported-inside : startFound b (find b x) + length (dataNamed b x) ≤ length b
-  reported-inside = rw (← (starts-at k b x refl part-there), reported-size) (part-fits k b x refl part-there)
+  reported-inside = rw (← (starts-at k b x refl part-there), reported-size) (part-fits k b x 0 refl part-there)
 
   pub reported-bytes : take (length (dataNamed b x)) (drop (startFound b (find b x)) b) ≡ dataNamed b x
   reported-bytes = rw (← (starts-at k b x refl part-there), reported-size) data-is

@@ -60,10 +60,18 @@ containerJudged k b = beforePsv k b then judgedAt (editionRead k (psvOf b)) (psv
 unfoldable pub containerAnswered : ℕ → List ℕ → Question → Value
 containerAnswered k b q = beside (containerJudged k b) (shown k (psvOf b) q)
 
--- one part by its name's number x: what opening gives, then 26
-unfoldable pub containerPart : ℕ → List ℕ → ℕ → Part
-containerPart k b x = partIf (containerJudged k b) b x
+-- one part by its name's number x and its occurrence o: what opening gives, then 26. Document 02, Ask 8: "A query by name takes that first
+-- number too"
+unfoldable pub containerOccurrence : ℕ → List ℕ → ℕ → ℕ → Part
+containerOccurrence k b x o = partIf (containerJudged k b) b x o
 
--- the data of the part with the name x: no bytes where the query refuses
-unfoldable pub partDataOf : ℕ → List ℕ → ℕ → List ℕ
-partDataOf k b x = dataIf (containerPart k b x .verdict) b (containerPart k b x .number)
+-- its data: no bytes where the query refuses
+unfoldable pub occurrenceDataOf : ℕ → List ℕ → ℕ → ℕ → List ℕ
+occurrenceDataOf k b x o = dataIf (containerOccurrence k b x o .verdict) b (containerOccurrence k b x o .number)
+
+-- "without it the first part is meant"
+abbrev pub containerPart : ℕ → List ℕ → ℕ → Part
+containerPart k b x = containerOccurrence k b x 0
+
+abbrev pub partDataOf : ℕ → List ℕ → ℕ → List ℕ
+partDataOf k b x = occurrenceDataOf k b x 0

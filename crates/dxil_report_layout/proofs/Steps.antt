@@ -18,7 +18,7 @@ use Rattle.psv0_layout.specs.Answers.{infoOf, infoAnswerOf, bytesBeside}
 use Rattle.psv0_layout.specs.declared.Field.{Field}
 use Rattle.psv0_layout.specs.declared.Field.the-variants.{Set}
 use Rattle.psv0_layout.specs.declared.InfoAnswer.{InfoAnswer}
-use Rattle.container_layout.specs.Container.{dxil, isThere, startFound, dataFound, containerJudged, containerAnswered, containerPart, partDataOf}
+use Rattle.container_layout.specs.Container.{dxil, isThere, startFound, dataFound, containerJudged, containerAnswered, containerPart, containerOccurrence, occurrenceDataOf, partDataOf}
 use Rattle.container_layout.specs.Report.{dataNamed, reported}
 use Rattle.container_layout.proofs.Parts.{part-fits, part-short}
 use Rattle.container_layout.proofs.Reports.{reported-open, reported-refused, no-report, data-reported, starts-at, data-there, opened-data, reported-judged, reported-inside, reported-part}
@@ -62,8 +62,8 @@ module _ (k : ℕ) (b : List ℕ) {r : Part} (hr : r ≡ containerPart k b dxil)
       pub bitcode-short : r .offset + 8 + (p .start + p .len) ≤ 16777216
       bitcode-short =
           let i = stretch-inside _ hp e in
-          let s = part-short k b dxil hr h in
-          let f = part-fits k b dxil hr h in
+          let s = part-short k b dxil 0 hr h in
+          let f = part-fits k b dxil 0 hr h in
           omega (arith, simp (length-take, length-drop) at i)
 
       shown : p ≡ programIf Accepted (dataNamed b dxil)
@@ -108,7 +108,7 @@ bitcode-is k b = go (containerJudged k b) refl
     go Accepted o =
         rw (opened-data k b dxil o, reported-open programJudged dxil k b o)
         (unfold dataNamed in there-if (programJudged (dataFound b (find b dxil))) (find b dxil) b refl)
-    go (Refused n p) o = rw (reported-refused programJudged dxil k b o) (unfold partDataOf containerPart in rw o no-bitcode)
+    go (Refused n p) o = rw (reported-refused programJudged dxil k b o) (unfold occurrenceDataOf containerOccurrence in rw o no-bitcode)
 
 -- ---- the stretch that a report shows lies inside the container and is the bitcode
 module _ (k : ℕ) (b : List ℕ) (a : programReported k b ≡ Accepted) where

@@ -14,7 +14,7 @@ use Rattle.inspect_text.specs.Inspected.{partLines, printedIf, printedAt
 use Rattle.lines.specs.Line.{numbers, acceptedLine, refusedLine, printable, nameText, mark, partLine}
 use Rattle.lines.specs.Number.{decimal}
 use Rattle.part_table_layout.specs.Lookup.{find}
-use Rattle.part_table_layout.specs.Table.{countOf, offsetAt, nameAt, sizeAt, dataAt, endAt, earliest, partJudged, nameJudged, headerJudged, partsJudged, tableJudged}
+use Rattle.part_table_layout.specs.Table.{countOf, offsetAt, nameAt, sizeAt, dataAt, endAt, earliest, partJudged, mayRepeat, mayStand, nameJudged, headerJudged, partsJudged, tableJudged}
 use Rattle.utf8_layout.specs.Sequence.{table, fits, front, more, after, counted as sequencesOf, wellFormed}
 use Rattle.psv0_layout.specs.Field.{maskWords, sum}
 use Rattle.psv0_layout.specs.Judged.{headJudged, fieldsJudged, bodyFits, elementJudged, elementsJudged, entryJudged, judgedAt}
@@ -56,7 +56,7 @@ said =
     ∷ []
 
 pub boxes-hold : given ≡ said
-unfolding u16At u32At _then_ check when from each find countOf offsetAt nameAt sizeAt dataAt endAt earliest partJudged nameJudged headerJudged partsJudged tableJudged maskWords sum headJudged fieldsJudged bodyFits elementJudged elementsJudged entryJudged judgedAt counted afterCounted countedFits records afterRecords recordsFit rows sections bodyOf seen hasZero untilZero table fits front more after sequencesOf wellFormed stringEnds stringGood stringAt indexGood arrayAt psvOf beforePsv containerJudged isKnown decimal numbers acceptedLine refusedLine printable nameText mark partLine partLines printedIf printedAt inspected
+unfolding u16At u32At _then_ check when from each find countOf offsetAt nameAt sizeAt dataAt endAt earliest partJudged mayRepeat mayStand nameJudged headerJudged partsJudged tableJudged maskWords sum headJudged fieldsJudged bodyFits elementJudged elementsJudged entryJudged judgedAt counted afterCounted countedFits records afterRecords recordsFit rows sections bodyOf seen hasZero untilZero table fits front more after sequencesOf wellFormed stringEnds stringGood stringAt indexGood arrayAt psvOf beforePsv containerJudged isKnown decimal numbers acceptedLine refusedLine printable nameText mark partLine partLines printedIf printedAt inspected
 boxes-hold = refl
 
 -- a file that an opening without an edition refuses with 24 is printed as one of edition 3 that is accepted

@@ -1,19 +1,19 @@
-// The part table of a DirectX container: refusals 1 to 9, every part's name, header offset and data size, and lookup by name.
+// The part table of a DirectX container: refusals 1 to 9, every part's name, header offset, data size, occurrence and gap, and lookup by
+// name and occurrence.
 use part_table_layout::Found;
 use part_table_layout::Part;
 use part_table_layout::Table;
 use part_table_layout::ThreeParts;
 use wire::Verdict;
 ghost use mathlib.Core.Path.{_≡_};
-ghost use Prim.Native.Nat.{_≤_, _<_};
-ghost use lib.Dec.{ltb};
+ghost use Prim.Native.Nat.{_+_, _≤_, _<_};
 ghost use lib.ListN.{getD};
 ghost use Rattle.constants.specs.Name.{isKnown};
 ghost use Rattle.wire.specs.Number.{u32At};
-ghost use Rattle.wire.specs.Search.{first};
+ghost use Rattle.wire.specs.Choice.{choose};
 ghost use Rattle.wire.specs.Verdict.{each};
-ghost use Rattle.part_table_layout.specs.Lookup.{foundIn, find, partIn, refusedPart, partAt, partOf, dataOf};
-ghost use Rattle.part_table_layout.specs.Table.{countOf, offsetAt, nameAt, sizeAt, earliest, partJudged, hasName, nameJudged, headerJudged, partsJudged, filled, refusedTable, tableIf, tableOf};
+ghost use Rattle.part_table_layout.specs.Lookup.{foundIn, occurrenceNamed, occurrenceIn, occurrenceListed, laterPart, partIn, refusedPart, partAt, occurrenceOf, occurrenceData, partOf, dataOf};
+ghost use Rattle.part_table_layout.specs.Table.{countOf, offsetAt, nameAt, sizeAt, earliest, partJudged, stoodEarlier, mayRepeat, mayStand, nameJudged, headerJudged, partsJudged, filled, refusedTable, tableIf, tableOf};
 ghost use Rattle.part_table_layout.specs.Three.{threeIf, threeOf};
 
 // A name's number: its four bytes, little-endian.
@@ -30,7 +30,8 @@ pub fn known(name: &[u8; 4]) -> bool
     constants::known_name(wire::u32_at(name, 0))
 }
 
-// The checks of the fixed header and of the offset table's length: refusals 1 to 7.
+// The checks of the fixed header and of the offset table's length: refusals 1 to 7. Size and count are read together: read after one test
+// more, the count was left as a call when compiled.
 fn judge_header(b: &[u8]) -> Verdict
     ensures { λ r. ⌜ r ≡ headerJudged (now (b .entry)) ⌝ }
 {
@@ -50,10 +51,11 @@ fn judge_header(b: &[u8]) -> Verdict
     if wire::u16_at(b, 22) != 0 {
         return Verdict::Refused(4, 0);
     }
-    if wire::u32_at(b, 24) as usize != len {
+    let stated = wire::u32_at(b, 24) as usize;
+    let n = wire::u32_at(b, 28) as usize;
+    if stated != len {
         return Verdict::Refused(5, 0);
     }
-    let n = wire::u32_at(b, 28) as usize;
     if 96 < n {
         return Verdict::Refused(6, 0);
     }
@@ -73,31 +75,51 @@ fn empty(v: Verdict) -> Table
         names: [0u32; 96],
         offsets: [0u32; 96],
         sizes: [0u32; 96],
+        occurrences: [0u32; 96],
+        gaps: [0u32; 96],
     }
 }
 
-// The part of a table, given by its names and its count, that has a name's number. No more than 96 names are looked at. This is the one
-// search by name: every lookup goes through it.
-pub fn find_name(names: &[u32; 96], count: usize, x: u32) -> Found
-    ensures { λ r. ⌜ r ≡ foundIn (now (names .entry)) count x ⌝ }
+// Whether a name may stand more than once.
+pub fn may_repeat(x: u32) -> bool
+    ensures { λ r. ⌜ r ≡ mayRepeat x ⌝ }
+{
+    x == wire::u32_at(b"PRIV", 0)
+}
+
+// The part of a table, given by its names and its count, that has a name's number and an occurrence. No more than 96 names are looked at.
+// This is the one search by name: every lookup goes through it.
+pub fn find_occurrence(names: &[u32; 96], count: usize, x: u32, occurrence: usize) -> Found
+    ensures { λ r. ⌜ r ≡ occurrenceIn (now (names .entry)) count x occurrence ⌝ }
 {
     let n = if count < 96 { count } else { 96 };
+    let mut left = occurrence;
     let mut i = 0;
     loop {
         if n <= i {
             break Found::Nothing;
         }
         if names[i] == x {
-            break Found::At(i);
+            if left == 0 {
+                break Found::At(i);
+            }
+            left -= 1;
         }
         i += 1;
     }
 }
 
+// The first part that has a name's number.
+pub fn find_name(names: &[u32; 96], count: usize, x: u32) -> Found
+    ensures { λ r. ⌜ r ≡ foundIn (now (names .entry)) count x ⌝ }
+{
+    find_occurrence(names, count, x, 0)
+}
+
 // Whether x is one of the first n names. All n are looked at: with no way out of the loop, several are compared at once when compiled.
 fn stands(names: &[u32; 96], n: usize, x: u32) -> bool
     requires { ⌜ n ≤ 96 ⌝ }
-    ensures { λ r. ⌜ r ≡ ltb (first (hasName (λ k. getD (now (names .entry)) k 0) x) n) n ⌝ }
+    ensures { λ r. ⌜ r ≡ stoodEarlier (λ k. getD (now (names .entry)) k 0) x n ⌝ }
 {
     let mut hit = false;
     let mut i = 0;
@@ -110,14 +132,25 @@ fn stands(names: &[u32; 96], n: usize, x: u32) -> bool
     hit
 }
 
-// No name stands twice among the first n: refusal 9.
+// Whether a part with the name x may stand after the first n.
+fn may_stand(names: &[u32; 96], n: usize, x: u32) -> bool
+    requires { ⌜ n ≤ 96 ⌝ }
+    ensures { λ r. ⌜ r ≡ mayStand (λ k. getD (now (names .entry)) k 0) x n ⌝ }
+{
+    if stands(names, n, x) {
+        return may_repeat(x);
+    }
+    true
+}
+
+// No name that may not repeat stands twice among the first n: refusal 9.
 fn judge_names(names: &[u32; 96], n: usize) -> Verdict
     requires { ⌜ n ≤ 96 ⌝ }
     ensures { λ r. ⌜ r ≡ each (nameJudged (λ k. getD (now (names .entry)) k 0)) n ⌝ }
 {
     let mut i = 0;
     while i < n {
-        if stands(names, i, names[i]) {
+        if !may_stand(names, i, names[i]) {
             return Verdict::Refused(9, i);
         }
         i += 1;
@@ -162,8 +195,29 @@ fn part_header(b: &[u8], i: usize, end: usize) -> PartHeader
     }
 }
 
-// The headers of the parts, read up to the first that 8 refuses; then 9. The table is filled where it stands: a copy of it costs as much
-// as reading some ten parts.
+// The occurrence of a part with the name x, after so many parts whose names may repeat: only one name may.
+fn occurrence_after(x: u32, repeats: u32) -> u32
+    ensures { λ r. ⌜ r ≡ choose (mayRepeat x) repeats 0 ⌝ }
+{
+    if may_repeat(x) {
+        return repeats;
+    }
+    0
+}
+
+// How many parts' names may repeat, with one more part, whose name is x.
+fn repeats_with(x: u32, repeats: u32) -> u32
+    requires { ⌜ repeats ≤ 96 ⌝ }
+    ensures { λ r. ⌜ r ≡ repeats + choose (mayRepeat x) 1 0 ⌝ }
+{
+    if may_repeat(x) {
+        return repeats + 1;
+    }
+    repeats
+}
+
+// The headers of the parts, read up to the first that 8 refuses; then 9. Occurrences come from one running counter. The table is filled
+// where it stands: a copy of it costs as much as reading some ten parts.
 fn read_parts(b: &[u8], count: usize) -> Table
     requires { ⌜ (count ≡ countOf (now b)) × (count ≤ 96) ⌝ }
     ensures { λ r. ⌜ r ≡ tableIf (partsJudged (now (b .entry))) (now (b .entry)) ⌝ }
@@ -171,6 +225,7 @@ fn read_parts(b: &[u8], count: usize) -> Table
     let mut t = empty(Verdict::Accepted);
     t.count = count;
     let mut end = 32 + 4 * count;
+    let mut repeats = 0;
     let mut i = 0;
     while i < count {
         let h = part_header(b, i, end);
@@ -179,10 +234,14 @@ fn read_parts(b: &[u8], count: usize) -> Table
             return empty(v);
         }
         let at = h.offset as usize;
-        end = at + 8 + h.size as usize;
-        t.names[i] = wire::u32_at(b, at);
+        let x = wire::u32_at(b, at);
+        t.names[i] = x;
         t.offsets[i] = h.offset;
         t.sizes[i] = h.size;
+        t.occurrences[i] = occurrence_after(x, repeats);
+        t.gaps[i] = (at - end) as u32;
+        repeats = repeats_with(x, repeats);
+        end = at + 8 + h.size as usize;
         i += 1;
     }
     let twice = judge_names(&t.names, count);
@@ -215,15 +274,15 @@ pub fn no_part(v: Verdict) -> Part
     }
 }
 
-// The part with a name in a table that was read: the table's refusal, or 26 where no part has the name.
-pub fn part_in(t: Table, name: &[u8; 4]) -> Part
-    ensures { λ r. ⌜ r ≡ partIn t (u32At (now (name .entry)) 0) ⌝ }
+// The part with a name and an occurrence in a table that was read: the table's refusal, or 26 where there is no such part.
+pub fn part_in(t: Table, name: &[u8; 4], occurrence: usize) -> Part
+    ensures { λ r. ⌜ r ≡ partIn t (u32At (now (name .entry)) 0) occurrence ⌝ }
 {
     let v = t.verdict;
     match v {
         Verdict::Refused(_, _) => no_part(v),
         Verdict::Accepted => {
-            let f = find_name(&t.names, t.count, wire::u32_at(name, 0));
+            let f = find_occurrence(&t.names, t.count, wire::u32_at(name, 0), occurrence);
             match f {
                 Found::Nothing => no_part(Verdict::Refused(26, 0)),
                 Found::At(k) => Part {
@@ -250,12 +309,12 @@ fn no_parts(v: Verdict) -> ThreeParts
     }
 }
 
-// The part of a file with a name, among the names that were read of it. Offset and size are read of the file.
-fn listed(b: &[u8], names: &[u32; 96], count: usize, x: u32) -> Part
-    requires { ⌜ (count ≡ countOf (now b)) × (count ≤ 96) × (now names ≡ filled (nameAt (now b)) count) ⌝ }
-    ensures { λ r. ⌜ r ≡ partAt (now (b .entry)) (find (now (b .entry)) x) ⌝ }
+// The part of a file with a name and an occurrence, among the names of its first parts. Offset and size are read of the file.
+fn listed(b: &[u8], names: &[u32; 96], count: usize, x: u32, occurrence: usize) -> Part
+    requires { ⌜ (count ≤ 96) × (now names ≡ filled (nameAt (now b)) count) ⌝ }
+    ensures { λ r. ⌜ r ≡ partAt (now (b .entry)) (occurrenceNamed (nameAt (now (b .entry))) count x occurrence) ⌝ }
 {
-    let f = find_name(names, count, x);
+    let f = find_occurrence(names, count, x, occurrence);
     match f {
         Found::Nothing => no_part(Verdict::Refused(26, 0)),
         Found::At(k) => {
@@ -275,8 +334,8 @@ fn all_listed(b: &[u8], names: &[u32; 96], count: usize, x: u32, y: u32, z: u32)
     requires { ⌜ (count ≡ countOf (now b)) × (count ≤ 96) × (now names ≡ filled (nameAt (now b)) count) ⌝ }
     ensures { λ r. ⌜ r ≡ threeIf Verdict.Accepted (now (b .entry)) x y z ⌝ }
 {
-    let first = listed(b, names, count, x);
-    let second = listed(b, names, count, y);
+    let first = listed(b, names, count, x, 0);
+    let second = listed(b, names, count, y, 0);
     if y == z {
         return ThreeParts {
             verdict: Verdict::Accepted,
@@ -291,7 +350,7 @@ fn all_listed(b: &[u8], names: &[u32; 96], count: usize, x: u32, y: u32, z: u32)
         count,
         first,
         second,
-        third: listed(b, names, count, z),
+        third: listed(b, names, count, z, 0),
     }
 }
 
@@ -321,8 +380,8 @@ fn find_parts(b: &[u8], count: usize, x: u32, y: u32, z: u32) -> ThreeParts
     all_listed(b, &names, count, x, y, z)
 }
 
-// Refusals 1 to 9, and the parts with three names. No table is built, and the names are cleared only once the header has passed. Who wants
-// fewer parts says a name again.
+// Refusals 1 to 9, and the first parts with three names. No table is built, and the names are cleared only once the header has passed. Who
+// wants fewer parts says a name again.
 pub fn three_parts(b: &[u8], x: u32, y: u32, z: u32) -> ThreeParts
     ensures { λ r. ⌜ r ≡ threeOf (now (b .entry)) x y z ⌝ }
 {
@@ -333,7 +392,7 @@ pub fn three_parts(b: &[u8], x: u32, y: u32, z: u32) -> ThreeParts
     find_parts(b, wire::u32_at(b, 28) as usize, x, y, z)
 }
 
-// The part with a name: the table's refusal, or 26 where no part has the name.
+// The first part with a name: the table's refusal, or 26 where no part has the name.
 pub fn find_part(b: &[u8], name: &[u8; 4]) -> Part
     ensures { λ r. ⌜ r ≡ partOf (now (b .entry)) (u32At (now (name .entry)) 0) ⌝ }
 {
@@ -342,11 +401,58 @@ pub fn find_part(b: &[u8], name: &[u8; 4]) -> Part
     t.first
 }
 
-// The data of the part with a name, a part of the caller's slice: no bytes where the lookup refuses.
-pub fn part_data<'a>(b: &'a [u8], name: &[u8; 4]) -> &'a [u8]
-    ensures { λ r. ⌜ now r ≡ dataOf (now (b .entry)) (u32At (now (name .entry)) 0) ⌝ }
+// The names of the first parts that a file lists; nothing is judged.
+fn names_listed(b: &[u8], count: usize) -> [u32; 96]
+    requires { ⌜ count ≤ 96 ⌝ }
+    ensures { λ r. ⌜ r ≡ filled (nameAt (now (b .entry))) count ⌝ }
 {
-    let p = find_part(b, name);
+    let mut names = [0u32; 96];
+    let mut k = 0;
+    while k < count {
+        let at = wire::u32_at(b, 32 + 4 * k) as usize;
+        names[k] = wire::u32_at(b, at);
+        k += 1;
+    }
+    names
+}
+
+// The part with a name and an occurrence among the parts that a file lists, of which no more than 96 count.
+fn search_again(b: &[u8], x: u32, occurrence: usize) -> Part
+    ensures { λ r. ⌜ r ≡ partAt (now (b .entry)) (occurrenceListed (now (b .entry)) x occurrence) ⌝ }
+{
+    let stated = wire::u32_at(b, 28) as usize;
+    let count = if stated < 96 { stated } else { 96 };
+    let names = names_listed(b, count);
+    listed(b, &names, count, x, occurrence)
+}
+
+// The part with a name and an occurrence, where the first with that name was looked up: its refusal, or 26 where there is no such part. An
+// opening finds first parts alone, so a further one is searched only when it is asked for.
+pub fn later_part(b: &[u8], x: u32, first: Part, occurrence: usize) -> Part
+    ensures { λ r. ⌜ r ≡ laterPart (now (b .entry)) x occurrence first ⌝ }
+{
+    if occurrence == 0 {
+        return first;
+    }
+    let v = first.verdict;
+    match v {
+        Verdict::Refused(_, _) => first,
+        Verdict::Accepted => search_again(b, x, occurrence),
+    }
+}
+
+// The part with a name and an occurrence: the table's refusal, or 26 where there is no such part.
+pub fn find_part_occurrence(b: &[u8], name: &[u8; 4], occurrence: usize) -> Part
+    ensures { λ r. ⌜ r ≡ occurrenceOf (now (b .entry)) (u32At (now (name .entry)) 0) occurrence ⌝ }
+{
+    later_part(b, wire::u32_at(name, 0), find_part(b, name), occurrence)
+}
+
+// The data of the part with a name and an occurrence, a part of the caller's slice: no bytes where the lookup refuses.
+pub fn part_data_occurrence<'a>(b: &'a [u8], name: &[u8; 4], occurrence: usize) -> &'a [u8]
+    ensures { λ r. ⌜ now r ≡ occurrenceData (now (b .entry)) (u32At (now (name .entry)) 0) occurrence ⌝ }
+{
+    let p = find_part_occurrence(b, name, occurrence);
     let v = p.verdict;
     let offset = p.offset;
     let size = p.size;
@@ -358,4 +464,11 @@ pub fn part_data<'a>(b: &'a [u8], name: &[u8; 4]) -> &'a [u8]
             &b[from..to]
         }
     }
+}
+
+// The data of the first part with a name.
+pub fn part_data<'a>(b: &'a [u8], name: &[u8; 4]) -> &'a [u8]
+    ensures { λ r. ⌜ now r ≡ dataOf (now (b .entry)) (u32At (now (name .entry)) 0) ⌝ }
+{
+    part_data_occurrence(b, name, 0)
 }

@@ -1,13 +1,13 @@
 -- What an accepted table tells of the bytes, and that those facts are all it takes.
 -- Assumes nothing.
 use Prim.Native.Nat.{ℕ, zero, suc, _+_, _*_, _≤_, _<_}
-use mathlib.Core.Path.{_≡_}
-use mathlib.Core.Bool.{_&&_}
+use mathlib.Core.Path.{_≡_, refl, sym, _∙_}
+use mathlib.Core.Bool.{Bool, true, false, _&&_, _||_, not, true≢false}
 use mathlib.Core.List.{List}
 use mathlib.Core.Logic.{⊎-elim}
 use native.Mathlib.Nat.{le-of-suc-le-suc, eq-or-lt-of-le}
 use native.Mathlib.Omega.{arith}
-use lib.Dec.{leb, eqb}
+use lib.Dec.{ltb, leb, eqb}
 use lib.ListN.{length, length-drop}
 use lib.Seq.{length-take-le}
 use borrow.Author.Tests.{ltb-false, leb-true, eqb-true, eqb-false, not-true, le-ltb, le-leb, eq-eqb, ne-eqb}
@@ -18,7 +18,7 @@ use Rattle.wire.specs.declared.Verdict.the-variants.{Accepted, Refused}
 use Rattle.wire.proofs.Choices.{both}
 use Rattle.wire.proofs.Searches.{first-below, first-none}
 use Rattle.wire.proofs.Verdicts.{then-accepted, accepted-then, check-accepted, check-then, checked, each-accepted, each-all}
-use Rattle.part_table_layout.specs.Table.{magic, countOf, offsetAt, nameAt, sizeAt, dataAt, endAt, earliest, partJudged, hasName, nameJudged, headerJudged, partsJudged, tableJudged, refusedTable, acceptedTable, tableOf}
+use Rattle.part_table_layout.specs.Table.{magic, countOf, offsetAt, nameAt, sizeAt, dataAt, endAt, earliest, partJudged, hasName, priv, mayRepeat, mayStand, nameJudged, headerJudged, partsJudged, tableJudged, refusedTable, acceptedTable, tableOf}
 
 -- 1 to 7
 pub record Header (b : List ℕ) : Type 0 where
@@ -36,9 +36,9 @@ pub record Fits (b : List ℕ) (k : ℕ) : Type 0 where
   pub start : earliest b k ≤ offsetAt b k
   pub inside : endAt b k ≤ length b
 
--- 9 of part k
+-- 9 of part k: its name may repeat, or is none of those before it
 pub record Fresh (names : ℕ → ℕ) (k : ℕ) : Type 0 where
-  pub new : (j : ℕ) → j < k → names j ≡ names k → ⊥
+  pub new : mayRepeat (names k) ≡ false → (j : ℕ) → j < k → names j ≡ names k → ⊥
 
 -- 1 to 9
 pub record Sound (b : List ℕ) : Type 0 where
@@ -96,18 +96,28 @@ part-is b k f =
     checked _ _ _ (simp (le-leb _ _ (f .start), le-leb _ _ h, le-leb _ _ (f .inside)))
 
 pub name-told : (names : ℕ → ℕ) (k : ℕ) → nameJudged names k ≡ Accepted → Fresh names k
-unfolding nameJudged
-name-told names k h =
-    let p = hasName names (names k) in
-    let l : k ≤ first p k = ltb-false (first p k) k (not-true _ (check-accepted _ _ _ h)) in
-    record { new = λ j g. eqb-false (names j) (names k) (first-below p k j (omega arith)) }
+unfolding nameJudged mayStand
+name-told names k h = go (mayRepeat (names k)) refl (check-accepted _ _ _ h)
+  where
+    p : ℕ → Bool
+    p = hasName names (names k)
+
+    go : (t : Bool) → mayRepeat (names k) ≡ t → (t || not (ltb (first p k) k)) ≡ true → Fresh names k
+    go true e g = record { new = λ r. absurd (true≢false (sym e ∙ r)) }
+    go false e g =
+        let l : k ≤ first p k = ltb-false (first p k) k (not-true _ g) in
+        record { new = λ r j m. eqb-false (names j) (names k) (first-below p k j (omega arith)) }
 
 pub name-is-new : (names : ℕ → ℕ) (k : ℕ) → Fresh names k → nameJudged names k ≡ Accepted
-unfolding nameJudged
-name-is-new names k f =
-    let e = first-none (hasName names (names k)) k (λ j h. ne-eqb _ _ (f .new j h)) in
-    let l : k ≤ first (hasName names (names k)) k = omega arith in
-    checked _ _ _ (simp (le-ltb _ _ l))
+unfolding nameJudged mayStand
+name-is-new names k f = checked _ _ _ (go (mayRepeat (names k)) refl)
+  where
+    go : (t : Bool) → mayRepeat (names k) ≡ t → (t || not (ltb (first (hasName names (names k)) k) k)) ≡ true
+    go true e = refl
+    go false e =
+        let q = first-none (hasName names (names k)) k (λ j h. ne-eqb _ _ (f .new e j h)) in
+        let l : k ≤ first (hasName names (names k)) k = omega arith in
+        simp (le-ltb _ _ l)
 
 pub accepted-told : (b : List ℕ) → tableJudged b ≡ Accepted → Sound b
 unfolding tableJudged partsJudged
@@ -169,6 +179,11 @@ module _ (b : List ℕ) (h : tableJudged b ≡ Accepted) where
       let r = part-inside k l in
       length-take-le (sizeAt b k) _ (rw length-drop (omega arith))
 
-  -- no name occurs twice
-  pub names-differ : (i j : ℕ) → i < j → j < countOf b → nameAt b i ≡ nameAt b j → ⊥
-  names-differ i j g l = accepted-told b h .fresh j l .new i g
+  -- "every other name still may not": names other than PRIV differ
+  pub names-differ : (i j : ℕ) → i < j → j < countOf b → nameAt b i ≡ nameAt b j → nameAt b j ≡ priv
+  unfolding mayRepeat
+  names-differ i j g l e = go (mayRepeat (nameAt b j)) refl
+    where
+      go : (t : Bool) → mayRepeat (nameAt b j) ≡ t → nameAt b j ≡ priv
+      go true q = eqb-true _ _ q
+      go false q = absurd (accepted-told b h .fresh j l .new q i g e)

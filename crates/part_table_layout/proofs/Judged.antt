@@ -1,8 +1,8 @@
 -- The verdicts of 8 and 9 at numbers that the code holds.
 -- Assumes nothing.
-use Prim.Native.Nat.{ℕ, _+_, _*_, _≤_, _<_}
+use Prim.Native.Nat.{ℕ, _+_, _-_, _*_, _≤_, _<_}
 use mathlib.Core.Path.{_≡_, refl, sym, _∙_}
-use mathlib.Core.Bool.{Bool, true, false, true≢false}
+use mathlib.Core.Bool.{Bool, true, false, _||_, not, true≢false}
 use mathlib.Core.Logic.{⊎-elim}
 use mathlib.Core.List.{List}
 use native.Mathlib.Nat.{eq-or-lt-of-le}
@@ -17,9 +17,9 @@ use Rattle.wire.specs.Verdict.{each}
 use Rattle.wire.specs.declared.Verdict.{Verdict}
 use Rattle.wire.specs.declared.Verdict.the-variants.{Accepted, Refused}
 use Rattle.wire.proofs.Searches.{first-agree, first-below, first-at, first-is, first-none}
-use Rattle.wire.proofs.Verdicts.{checked, check-fails, each-none, each-stop, each-next, each-cong}
-use Rattle.part_table_layout.specs.Table.{countOf, offsetAt, nameAt, sizeAt, endAt, earliest, partJudged, hasName, nameJudged, filled}
-use Rattle.part_table_layout.proofs.Filled.{filled-below}
+use Rattle.wire.proofs.Verdicts.{checked, check-fails, each-none, each-stop, each-next, each-done, each-cong, stop-then, pass-then}
+use Rattle.part_table_layout.specs.Table.{countOf, offsetAt, nameAt, sizeAt, endAt, earliest, partJudged, hasName, stoodEarlier, mayRepeat, mayStand, nameJudged, gapAt, partsJudged, filled}
+use Rattle.part_table_layout.proofs.Filled.{filled-below, filled-all}
 
 pub offset-is : (b : List ℕ) (k : ℕ) {s : ℕ} → s ≡ u32At b (32 + 4 * k) → s ≡ offsetAt b k
 unfolding offsetAt
@@ -38,6 +38,10 @@ module _ (b : List ℕ) (k : ℕ) {s end : ℕ} (hs : s ≡ offsetAt b k) (he : 
   pub no-header : end ≤ s → length b < s + 8 → partJudged b k ≡ Refused 8 k
   unfolding partJudged
   no-header h g = check-fails _ _ _ (simp (le-leb _ _ (rw (he, hs) at h), lt-leb _ _ (rw hs at g)))
+
+  pub gap-is : s - end ≡ gapAt b k
+  unfolding gapAt
+  gap-is = rw (hs, he)
 
   module _ {z : ℕ} (hz : z ≡ u32At b (s + 4)) where
     pub size-is : z ≡ sizeAt b k
@@ -75,15 +79,32 @@ module _ (b : List ℕ) {n i end : ℕ} (w : Walked b n i end) (l : i < n) {v : 
   pub walk-stops : {m p : ℕ} → v ≡ Refused m p → each (partJudged b) n ≡ Refused m p
   walk-stops e = each-stop _ _ _ _ _ l (w .fine) (sym hv ∙ e)
 
--- 9 of name k, where the search for an equal name among the k before it came to r
-module _ (names : ℕ → ℕ) (k : ℕ) {r : ℕ} (h : r ≡ first (hasName names (names k)) k) where
-  pub stood : r < k → nameJudged names k ≡ Refused 9 k
-  unfolding nameJudged
-  stood l = check-fails _ _ _ (simp (lt-ltb _ _ (rw h at l)))
+-- 9 of name k: whether a part with the name x may stand after the first k, where t is whether one of them has that name
+module _ (names : ℕ → ℕ) (x k : ℕ) {t : Bool} (h : t ≡ stoodEarlier names x k) where
+  pub stood : t ≡ true → {r : Bool} → r ≡ mayRepeat x → r ≡ mayStand names x k
+  unfolding mayStand
+  stood e {r} q = q ∙ go (mayRepeat x)
+    where
+      go : (s : Bool) → s ≡ (s || not (stoodEarlier names x k))
+      go true = refl
+      go false = rw (← h, e)
 
-  pub fresh : k ≤ r → nameJudged names k ≡ Accepted
+  pub fresh : t ≡ false → true ≡ mayStand names x k
+  unfolding mayStand
+  fresh e = go (mayRepeat x)
+    where
+      go : (s : Bool) → true ≡ (s || not (stoodEarlier names x k))
+      go true = refl
+      go false = rw (← h, e)
+
+module _ (names : ℕ → ℕ) (k : ℕ) {t : Bool} (h : t ≡ mayStand names (names k) k) where
+  pub name-refused : t ≡ false → nameJudged names k ≡ Refused 9 k
   unfolding nameJudged
-  fresh l = checked _ _ _ (simp (le-ltb _ _ (rw h at l)))
+  name-refused e = check-fails _ _ _ (sym h ∙ e)
+
+  pub name-accepted : t ≡ true → nameJudged names k ≡ Accepted
+  unfolding nameJudged
+  name-accepted e = checked _ _ _ (sym h ∙ e)
 
 -- whether x is one of the first i names
 unfoldable pub seenBelow : List ℕ → ℕ → ℕ → Bool
@@ -129,15 +150,34 @@ module _ (names : List ℕ) (x : ℕ) where
     all-seen {n} h g e = let q : i ≡ n = omega arith in rw q at e
 
 -- 9 goes by the names alone
+pub stand-agree : (f g : ℕ → ℕ) (x k : ℕ) → ((j : ℕ) → j < k → f j ≡ g j) → mayStand f x k ≡ mayStand g x k
+unfolding mayStand
+stand-agree f g x k h =
+    let e : first (hasName f x) k ≡ first (hasName g x) k = first-agree _ _ k (λ j l. let p = h j l in rw p) in
+    rw e
+
 name-agree : (f g : ℕ → ℕ) (k : ℕ) → ((j : ℕ) → j ≤ k → f j ≡ g j) → nameJudged f k ≡ nameJudged g k
 unfolding nameJudged
 name-agree f g k h =
-    let e : first (hasName f (f k)) k ≡ first (hasName g (g k)) k =
-    first-agree _ _ k (λ j m. let p = h j (omega arith) in let q = h k (omega arith) in rw (p, q)) in
-    rw e
+    let e = stand-agree f g (g k) k (λ j l. h j (omega arith)) in
+    let q = h k (omega arith) in
+    rw (q, e)
 
 -- the names of a table repeat where those of the file do
 pub names-agree : (b : List ℕ) {n : ℕ} → n ≤ 96
     → each (nameJudged (λ k. getD (filled (nameAt b) n) k 0)) n ≡ each (nameJudged (nameAt b)) n
 names-agree b {n} l =
     each-cong _ _ n (λ k h. name-agree _ _ k (λ j g. filled-below (nameAt b) n j l (omega arith)))
+
+-- ---- 8, then 9
+module _ (b : List ℕ) {n : ℕ} (hn : n ≡ countOf b) {v : Verdict} where
+  pub eight-refused : {m p : ℕ} → v ≡ Refused m p → each (partJudged b) n ≡ Refused m p → v ≡ partsJudged b
+  unfolding partsJudged
+  eight-refused e h = e ∙ stop-then _ (each (nameJudged (nameAt b)) (countOf b)) _ _ (rw hn at h)
+
+  pub nine-is : {i end : ℕ} {names : List ℕ} → n ≤ 96 → Walked b n i end → n ≤ i → names ≡ filled (nameAt b) i
+      → v ≡ each (nameJudged (λ k. getD names k 0)) n → v ≡ partsJudged b
+  unfolding partsJudged
+  nine-is l w ni hx hv =
+      pass-then _ _ _ (rw hn at (each-done _ (w .within) ni (w .fine)))
+      (hv ∙ rw (filled-all (nameAt b) (w .within) ni hx) (names-agree b l ∙ rw hn))

@@ -5,16 +5,18 @@ use mathlib.Core.Path.{_≡_, refl, sym, _∙_, ap}
 use mathlib.Core.List.{List}
 use native.Mathlib.Numerals.{add-one}
 use native.Mathlib.Omega.{arith}
-use lib.ListN.{getD, set}
-use Rattle.wire.specs.Verdict.{each}
+use lib.ListN.{set}
 use Rattle.wire.specs.declared.Verdict.{Verdict}
 use Rattle.wire.specs.declared.Verdict.the-variants.{Accepted, Refused}
-use Rattle.wire.proofs.Verdicts.{each-done, stop-then, pass-then}
-use Rattle.part_table_layout.specs.Table.{countOf, offsetAt, nameAt, sizeAt, partJudged, nameJudged, headerJudged, partsJudged, tableJudged, filled, refusedTable, acceptedTable, tableIf, tableOf}
+use Rattle.wire.proofs.Verdicts.{then-accepted, each-accepted, stop-then, pass-then}
+use Rattle.part_table_layout.specs.Table.{countOf, offsetAt, nameAt, sizeAt, occurrenceAt, gapAt, headerJudged, partsJudged, tableJudged, filled, refusedTable, tableIf, tableOf}
 use Rattle.part_table_layout.specs.declared.Table.{Table}
-use Rattle.part_table_layout.proofs.Judged.{Walked, names-agree}
+use Rattle.part_table_layout.proofs.Accepted.{name-told}
+use Rattle.part_table_layout.proofs.Filled.{filled-agree}
+use Rattle.part_table_layout.proofs.Judged.{Walked}
+use Rattle.part_table_layout.proofs.Occurrences.{countedAt, counted-is}
 
--- the table with the entries of the first i parts
+-- the table with the entries of the first i parts, whose occurrences come from a counter
 abbrev pub tableTo : List ℕ → ℕ → Table
 tableTo b i =
     record {
@@ -23,47 +25,45 @@ tableTo b i =
       names = filled (nameAt b) i;
       offsets = filled (offsetAt b) i;
       sizes = filled (sizeAt b) i;
+      occurrences = filled (countedAt (nameAt b)) i;
+      gaps = filled (gapAt b) i;
     }
 
 module _ (b : List ℕ) {t : Table} (i : ℕ) (ht : t ≡ tableTo b i) where
-  pub entry-more : {x s z : ℕ} → x ≡ nameAt b i → s ≡ offsetAt b i → z ≡ sizeAt b i
-      → record { verdict = t .verdict; count = t .count; names = set (t .names) i x; offsets = set (t .offsets) i s; sizes = set (t .sizes) i z }
+  pub entry-more : {x s z o g : ℕ} → x ≡ nameAt b i → s ≡ offsetAt b i → z ≡ sizeAt b i → o ≡ countedAt (nameAt b) i → g ≡ gapAt b i
+      → record {
+        verdict = t .verdict;
+        count = t .count;
+        names = set (t .names) i x;
+        offsets = set (t .offsets) i s;
+        sizes = set (t .sizes) i z;
+        occurrences = set (t .occurrences) i o;
+        gaps = set (t .gaps) i g;
+      }
       ≡ tableTo b (i + 1)
-  entry-more hx hs hz = rw (ht, hx, hs, hz, add-one)
-
-  pub all-entries : {n end : ℕ} → n ≡ countOf b → Walked b n i end → n ≤ i → t ≡ tableIf (each (partJudged b) n) b
-  all-entries h w g =
-      let q : i ≡ countOf b = omega (arith, w .within) in
-      rw (each-done _ (w .within) g (w .fine), ht, q)
+  entry-more hx hs hz ho hg = rw (ht, hx, hs, hz, ho, hg, add-one)
 
 verdict-if : (v : Verdict) (b : List ℕ) → tableIf v b .verdict ≡ v
 verdict-if Accepted b = refl
 verdict-if (Refused n p) b = refl
 
--- 8, then 9
-pub part-refused : (b : List ℕ) {n m p : ℕ} → n ≡ countOf b → each (partJudged b) n ≡ Refused m p → refusedTable (Refused m p) ≡ tableIf (partsJudged b) b
-unfolding partsJudged
-part-refused b hn h =
-    let r = stop-then _ (each (nameJudged (nameAt b)) (countOf b)) _ _ (rw hn at h) in
-    ap (λ (v : Verdict). tableIf v b) r
+-- ---- what is shown under the verdict v of 8 and 9
+module _ (b : List ℕ) {v : Verdict} (hv : v ≡ partsJudged b) where
+  pub none-shown : {m p : ℕ} → v ≡ Refused m p → refusedTable v ≡ tableIf (partsJudged b) b
+  none-shown e = rw (← hv, e)
 
-module _ (b : List ℕ) {n : ℕ} (hn : n ≡ countOf b) {t : Table} (ht : t ≡ tableIf (each (partJudged b) n) b) where
-  eight : {v : Verdict} → t .verdict ≡ v → each (partJudged b) (countOf b) ≡ v
-  eight h = let e = rw ht at h in rw (verdict-if, hn) at e
+  -- once 9 has passed, what the counter gave are the occurrences
+  counted : v ≡ Accepted → filled (countedAt (nameAt b)) (countOf b) ≡ filled (occurrenceAt (nameAt b)) (countOf b)
+  unfolding partsJudged
+  counted e =
+      let names = then-accepted _ _ (sym hv ∙ e) .1 in
+      filled-agree _ _ (countOf b) (λ k l. counted-is (nameAt b) k (name-told (nameAt b) k (each-accepted _ _ k names l)))
 
-  module _ (h : t .verdict ≡ Accepted) (l : n ≤ 96) {v : Verdict} (hv : v ≡ each (nameJudged (λ k. getD (t .names) k 0)) n) where
-    is : t ≡ acceptedTable b
-    is = ht ∙ rw (hn, eight h)
-
-    nine : v ≡ partsJudged b
-    unfolding partsJudged
-    nine = pass-then _ _ _ (eight h) (hv ∙ rw (is, ← hn) (names-agree b l))
-
-    pub names-refused : {m p : ℕ} → v ≡ Refused m p → refusedTable v ≡ tableIf (partsJudged b) b
-    names-refused e = rw (← nine, e)
-
-    pub names-accepted : v ≡ Accepted → t ≡ tableIf (partsJudged b) b
-    names-accepted e = is ∙ rw (← nine, e)
+  pub all-shown : v ≡ Accepted → {n i end : ℕ} → n ≡ countOf b → Walked b n i end → n ≤ i
+      → {t : Table} → t ≡ tableTo b i → t ≡ tableIf (partsJudged b) b
+  all-shown e {n} {i} hn w g ht =
+      let q : i ≡ countOf b = omega (arith, w .within) in
+      ht ∙ rw (q, counted e, ← hv, e)
 
 -- 1 to 7, then the parts
 module _ (b : List ℕ) {v : Verdict} (hv : v ≡ headerJudged b) where

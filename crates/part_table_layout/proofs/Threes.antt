@@ -3,56 +3,43 @@
 use Prim.Native.Nat.{ℕ, _+_, _*_, _≤_}
 use mathlib.Core.Path.{_≡_, refl, sym, _∙_, ap}
 use mathlib.Core.List.{List}
-use native.Mathlib.Numerals.{add-one}
-use native.Mathlib.Omega.{arith}
-use lib.ListN.{getD, set}
+use lib.ListN.{set}
 use Rattle.wire.specs.Number.{u32At}
-use Rattle.wire.specs.Verdict.{each}
 use Rattle.wire.specs.declared.Verdict.{Verdict}
 use Rattle.wire.specs.declared.Verdict.the-variants.{Accepted, Refused}
-use Rattle.wire.proofs.Verdicts.{each-done, stop-then, pass-then}
-use Rattle.part_table_layout.specs.Lookup.{foundIn, find, refusedPart, partAt, partOf}
-use Rattle.part_table_layout.specs.Table.{countOf, offsetAt, nameAt, sizeAt, partJudged, nameJudged, headerJudged, partsJudged, tableJudged, filled}
+use Rattle.wire.proofs.Verdicts.{stop-then, pass-then}
+use Rattle.part_table_layout.specs.Lookup.{occurrenceNamed, occurrenceIn, findOccurrence, refusedPart, partAt, occurrenceOf, partOf}
+use Rattle.part_table_layout.specs.Table.{countOf, offsetAt, nameAt, sizeAt, headerJudged, partsJudged, tableJudged, filled}
 use Rattle.part_table_layout.specs.Three.{threeIf, threeOf}
 use Rattle.part_table_layout.specs.declared.Found.{Found}
 use Rattle.part_table_layout.specs.declared.Found.the-variants.{At, Nothing}
 use Rattle.part_table_layout.specs.declared.Part.{Part}
 use Rattle.part_table_layout.specs.declared.ThreeParts.{ThreeParts}
-use Rattle.part_table_layout.proofs.Judged.{Walked, names-agree}
-use Rattle.part_table_layout.proofs.Lookups.{found-in-table}
+use Rattle.part_table_layout.proofs.Filled.{filled-more}
+use Rattle.part_table_layout.proofs.Lookups.{occurrence-in-filled}
 
--- ---- a part by its name, among the names that were read
-module _ (b names : List ℕ) (x : ℕ) {n : ℕ} (hn : n ≡ countOf b) (l : n ≤ 96) (h : names ≡ filled (nameAt b) n) {f : Found} (hf : f ≡ foundIn names n x) where
-  found-is : f ≡ find b x
-  found-is = hf ∙ rw (h, hn) (found-in-table b x (rw hn at l))
+-- ---- a part by its name and occurrence, among n names that were read
+module _ (b names : List ℕ) (n x o : ℕ) (l : n ≤ 96) (h : names ≡ filled (nameAt b) n) {f : Found} (hf : f ≡ occurrenceIn names n x o) where
+  found-is : f ≡ occurrenceNamed (nameAt b) n x o
+  found-is = hf ∙ rw h (occurrence-in-filled (nameAt b) n x o l)
 
-  pub listed-nowhere : f ≡ Nothing → refusedPart (Refused 26 0) ≡ partAt b (find b x)
+  pub listed-nowhere : f ≡ Nothing → refusedPart (Refused 26 0) ≡ partAt b (occurrenceNamed (nameAt b) n x o)
   listed-nowhere e = rw (← found-is, e)
 
   pub listed-there : {k s z : ℕ} → f ≡ At k → s ≡ u32At b (32 + 4 * k) → z ≡ u32At b (s + 4)
-      → record { verdict = Accepted; number = k; offset = s; size = z } ≡ partAt b (find b x)
+      → record { verdict = Accepted; number = k; offset = s; size = z } ≡ partAt b (occurrenceNamed (nameAt b) n x o)
   unfolding offsetAt sizeAt
   listed-there e hs hz = rw (← found-is, e, hz, hs)
 
+-- all the parts count
+pub all-listed : (b : List ℕ) {n : ℕ} (x : ℕ) → n ≡ countOf b → {p : Part} → p ≡ partAt b (occurrenceNamed (nameAt b) n x 0)
+    → p ≡ partAt b (findOccurrence b x 0)
+unfolding findOccurrence
+all-listed b x hn h = rw hn at h
+
 -- ---- the names, as they are read
-module _ (b : List ℕ) {names : List ℕ} where
-  pub name-more : (i : ℕ) {x : ℕ} → names ≡ filled (nameAt b) i → x ≡ nameAt b i → set names i x ≡ filled (nameAt b) (i + 1)
-  name-more i h hx = rw (h, hx, add-one)
-
-  pub all-names : {i n : ℕ} → i ≤ n → n ≤ i → names ≡ filled (nameAt b) i → names ≡ filled (nameAt b) n
-  all-names {i} {n} l g h = let q : i ≡ n = omega arith in rw q at h
-
--- ---- 8, then 9
-module _ (b : List ℕ) {n : ℕ} (hn : n ≡ countOf b) {v : Verdict} where
-  pub eight-refused : {m p : ℕ} → v ≡ Refused m p → each (partJudged b) n ≡ Refused m p → v ≡ partsJudged b
-  unfolding partsJudged
-  eight-refused e h = e ∙ stop-then _ (each (nameJudged (nameAt b)) (countOf b)) _ _ (rw hn at h)
-
-  pub nine-is : {i end : ℕ} {names : List ℕ} → n ≤ 96 → Walked b n i end → n ≤ i → names ≡ filled (nameAt b) i
-      → v ≡ each (nameJudged (λ k. getD names k 0)) n → v ≡ partsJudged b
-  unfolding partsJudged
-  nine-is l w ni hx hv =
-      pass-then _ _ _ (rw hn at (each-done _ (w .within) ni (w .fine))) (hv ∙ rw (all-names b (w .within) ni hx) (names-agree b l ∙ rw hn))
+pub name-more : (b : List ℕ) {names : List ℕ} (i : ℕ) {x : ℕ} → names ≡ filled (nameAt b) i → x ≡ nameAt b i → set names i x ≡ filled (nameAt b) (i + 1)
+name-more b i h hx = rw h (filled-more (nameAt b) i hx)
 
 -- ---- what is shown under the verdict v
 module _ (b : List ℕ) (x y z : ℕ) {v : Verdict} where
@@ -80,15 +67,15 @@ module _ (b : List ℕ) (x y z : ℕ) {t : ThreeParts} (ht : t ≡ threeOf b x y
   three-verdict = ap (λ (u : ThreeParts). u .verdict) ht
 
   pub three-first : t .first ≡ partOf b x
-  unfolding threeOf partOf
+  unfolding threeOf occurrenceOf
   three-first = ap (λ (u : ThreeParts). u .first) ht
 
   pub three-second : t .second ≡ partOf b y
-  unfolding threeOf partOf
+  unfolding threeOf occurrenceOf
   three-second = ap (λ (u : ThreeParts). u .second) ht
 
   pub three-third : t .third ≡ partOf b z
-  unfolding threeOf partOf
+  unfolding threeOf occurrenceOf
   three-third = ap (λ (u : ThreeParts). u .third) ht
 
   pub three-count : tableJudged b ≡ Accepted → t .count ≡ countOf b

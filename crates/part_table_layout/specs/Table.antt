@@ -1,11 +1,12 @@
 -- The part table of a container, as document 01 has it in "The container" and "Refusal numbers".
-use mathlib.Core.Bool.{Bool, _&&_, not}
+use mathlib.Core.Bool.{Bool, _&&_, _||_, not}
 use mathlib.Core.List.{List, [], _∷_}
-use Prim.Native.Nat.{ℕ, zero, suc, _+_, _*_}
+use Prim.Native.Nat.{ℕ, zero, suc, _+_, _-_, _*_}
 use lib.Dec.{ltb, leb, eqb}
 use lib.ListN.{length, take, drop, set, replicate}
 use Rattle.wire.specs.Number.{u16At, u32At}
 use Rattle.wire.specs.Search.{first}
+use Rattle.wire.specs.Sum.{sumBelow, countBelow}
 use Rattle.wire.specs.Verdict.{_then_, check, each}
 use Rattle.wire.specs.declared.Verdict.{Verdict}
 use Rattle.wire.specs.declared.Verdict.the-variants.{Accepted, Refused}
@@ -50,13 +51,38 @@ partJudged b k = check (leb (earliest b k) (offsetAt b k) && leb (offsetAt b k +
 abbrev pub hasName : (ℕ → ℕ) → ℕ → ℕ → Bool
 hasName names x j = eqb (names j) x
 
--- the name of part k is one of the k names before it
-abbrev pub stoodEarlier : (ℕ → ℕ) → ℕ → Bool
-stoodEarlier names k = ltb (first (hasName names (names k)) k) k
+-- x is one of the first k names
+abbrev pub stoodEarlier : (ℕ → ℕ) → ℕ → ℕ → Bool
+stoodEarlier names x k = ltb (first (hasName names x) k) k
 
--- "no name occurs twice": which names may repeat is said here and nowhere else. 9: "a name stood earlier"; the place is the part
+-- the name `PRIV`, as a number
+abbrev pub priv : ℕ
+priv = u32At (80 ∷ 82 ∷ 73 ∷ 86 ∷ []) 0
+
+-- "no name occurs twice"; document 02, Ask 8: "PRIV may repeat; every other name still may not". Which names may repeat is said here and
+-- nowhere else.
+unfoldable pub mayRepeat : ℕ → Bool
+mayRepeat x = eqb x priv
+
+-- a part with the name x may stand after the first k
+unfoldable pub mayStand : (ℕ → ℕ) → ℕ → ℕ → Bool
+mayStand names x k = mayRepeat x || not (stoodEarlier names x k)
+
+-- 9: "a name stood earlier", "and 9 reads so"; the place is the part
 unfoldable pub nameJudged : (ℕ → ℕ) → ℕ → Verdict
-nameJudged names k = check (not (stoodEarlier names k)) 9 k
+nameJudged names k = check (mayStand names (names k) k) 9 k
+
+-- how many of the first k parts bear the name x
+abbrev pub borne : (ℕ → ℕ) → ℕ → ℕ → ℕ
+borne names x k = countBelow (hasName names x) k
+
+-- "how many earlier parts bear its name"
+abbrev pub occurrenceAt : (ℕ → ℕ) → ℕ → ℕ
+occurrenceAt names k = borne names (names k) k
+
+-- "and how many gap bytes lie before its header": after the part before it; for the first, after the offset table
+unfoldable pub gapAt : List ℕ → ℕ → ℕ
+gapAt b k = offsetAt b k - earliest b k
 
 -- 1 to 7, in the order of checking
 unfoldable pub headerJudged : List ℕ → Verdict
@@ -77,6 +103,14 @@ partsJudged b = each (partJudged b) (countOf b) then each (nameJudged (nameAt b)
 unfoldable pub tableJudged : List ℕ → Verdict
 tableJudged b = headerJudged b then partsJudged b
 
+-- "the bytes after the last part (with no part, after the offset table)"
+unfoldable pub afterParts : List ℕ → ℕ
+afterParts b = length b - earliest b (countOf b)
+
+-- "the gaps, the part headers and data, the header, the offset table and the bytes after the last part"
+unfoldable pub accounted : List ℕ → ℕ
+accounted b = 32 + 4 * countOf b + sumBelow (gapAt b) (countOf b) + sumBelow (λ k. 8 + sizeAt b k) (countOf b) + afterParts b
+
 -- "Part table arrays built as 96 zero entries, filled up to the count"
 abbrev pub filled : (ℕ → ℕ) → ℕ → List ℕ
 filled f zero = replicate 96 0
@@ -91,6 +125,8 @@ refusedTable v =
       names = replicate 96 0;
       offsets = replicate 96 0;
       sizes = replicate 96 0;
+      occurrences = replicate 96 0;
+      gaps = replicate 96 0;
     }
 
 abbrev pub acceptedTable : List ℕ → Table
@@ -101,6 +137,8 @@ acceptedTable b =
       names = filled (nameAt b) (countOf b);
       offsets = filled (offsetAt b) (countOf b);
       sizes = filled (sizeAt b) (countOf b);
+      occurrences = filled (occurrenceAt (nameAt b)) (countOf b);
+      gaps = filled (gapAt b) (countOf b);
     }
 
 abbrev pub tableIf : Verdict → List ℕ → Table

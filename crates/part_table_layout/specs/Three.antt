@@ -10,7 +10,7 @@ use Rattle.part_table_layout.specs.declared.ThreeParts.{ThreeParts}
 -- under a verdict of 1 to 9: the part count that a table shows, and the parts that a lookup gives of the names x, y and z
 abbrev pub threeIf : Verdict → List ℕ → ℕ → ℕ → ℕ → ThreeParts
 threeIf v b x y z =
-    record { verdict = v; count = tableIf v b .count; first = partIf v b x; second = partIf v b y; third = partIf v b z }
+    record { verdict = v; count = tableIf v b .count; first = partIf v b x 0; second = partIf v b y 0; third = partIf v b z 0 }
 
 -- 1 to 9, and the parts with three names
 unfoldable pub threeOf : List ℕ → ℕ → ℕ → ℕ → ThreeParts

@@ -3,13 +3,16 @@
 use wire::Verdict;
 
 // A part table, with room for 96 parts. Entries from count on are zero; a refusal has count 0.
-// A name is its four bytes as one little-endian number.
+// A name is its four bytes as one little-endian number; an occurrence is how many earlier parts bear the name, a gap how many bytes lie
+// before the part's header, after the part before it or, for the first, after the offset table.
 pub struct Table {
     pub verdict: Verdict,
     pub count: usize,
     pub names: [u32; 96],
     pub offsets: [u32; 96],
     pub sizes: [u32; 96],
+    pub occurrences: [u32; 96],
+    pub gaps: [u32; 96],
 }
 
 // The number of a part, or that there is none.

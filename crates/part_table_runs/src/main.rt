@@ -1,6 +1,7 @@
 // Containers at the edges of refusals 1 to 9, and lookups: one line a case, compared with the file stdout.
 use libc::STDOUT_FILENO;
 use part_table_layout::Found;
+use part_table_layout::Part;
 use part_table_layout::Table;
 use wire::Verdict;
 
@@ -243,6 +244,8 @@ fn entry(t: Table, k: usize) {
         word(t.names[k]);
         word(t.offsets[k]);
         word(t.sizes[k]);
+        word(t.occurrences[k]);
+        word(t.gaps[k]);
         print(b"\n");
     }
 }
@@ -275,11 +278,8 @@ fn bytes(b: &[u8]) {
     print(b"\n");
 }
 
-// The part with a name in the first n bytes: its number, header offset and data size; and its data.
-fn lookup(b: &[u8; 2048], n: usize, name: &[u8; 4]) {
-    print(name);
-    print(b":");
-    let p = part_table::find_part(front(b, n), name);
+// A part that was looked up: its number, header offset and data size.
+fn found(p: Part) {
     let v = p.verdict;
     match v {
         Verdict::Refused(r, place) => refused(r, place),
@@ -291,7 +291,25 @@ fn lookup(b: &[u8; 2048], n: usize, name: &[u8; 4]) {
         }
     }
     print(b"\n");
+}
+
+// The part with a name in the first n bytes, and its data.
+fn lookup(b: &[u8; 2048], n: usize, name: &[u8; 4]) {
+    print(name);
+    print(b":");
+    found(part_table::find_part(front(b, n), name));
     bytes(part_table::part_data(front(b, n), name));
+}
+
+// The same with an occurrence, and in the table that was read.
+fn occurrence(b: &[u8; 2048], n: usize, name: &[u8; 4], o: usize) {
+    print(name);
+    number(o as u64);
+    print(b":");
+    found(part_table::find_part_occurrence(front(b, n), name, o));
+    bytes(part_table::part_data_occurrence(front(b, n), name, o));
+    print(b"in the table:");
+    found(part_table::part_in(table(b, n), name, o));
 }
 
 fn lookups() {
@@ -303,6 +321,84 @@ fn lookups() {
     lookup(&b, 92, b"PSV0");
     lookup(&b, 92, b"HASH");
     lookup(&b, 91, b"DXIL");
+}
+
+// ---- several private parts
+
+// 120 bytes: PRIV with 2 bytes after a gap of one, SFI0 with none, PRIV with 4, PRIV with none after a gap of 17, DXIL with one; three bytes
+// after it.
+fn private(b: &mut [u8; 2048]) {
+    header(b, 120, 5);
+    part(b, 0, 53, part_table::name_number(b"PRIV"), 2);
+    put_half(b, 61, 513);
+    part(b, 1, 63, part_table::name_number(b"SFI0"), 0);
+    part(b, 2, 71, part_table::name_number(b"PRIV"), 4);
+    put(b, 79, 67305985);
+    part(b, 3, 100, part_table::name_number(b"PRIV"), 0);
+    part(b, 4, 108, part_table::name_number(b"DXIL"), 1);
+}
+
+fn several_private() {
+    let mut b = [0u8; 2048];
+    private(&mut b);
+    print(b"three PRIV:");
+    read(&b, 120);
+    let t = table(&b, 120);
+    entry(t, 0);
+    entry(t, 1);
+    entry(t, 2);
+    entry(t, 3);
+    entry(t, 4);
+    entry(t, 5);
+    lookup(&b, 120, b"PRIV");
+    occurrence(&b, 120, b"PRIV", 0);
+    occurrence(&b, 120, b"PRIV", 1);
+    occurrence(&b, 120, b"PRIV", 2);
+    occurrence(&b, 120, b"PRIV", 3);
+    occurrence(&b, 120, b"PRIV", 18446744073709551615);
+    occurrence(&b, 120, b"DXIL", 0);
+    occurrence(&b, 120, b"DXIL", 1);
+    occurrence(&b, 119, b"PRIV", 1);
+}
+
+// Another name that stands twice, beside three PRIV.
+fn others_repeat(name: &[u8; 4]) {
+    let mut b = [0u8; 2048];
+    private(&mut b);
+    part(&mut b, 1, 63, part_table::name_number(name), 0);
+    part(&mut b, 4, 108, part_table::name_number(name), 1);
+    print(name);
+    print(b" twice beside them:");
+    read(&b, 120);
+    entry(table(&b, 120), 2);
+}
+
+// Gives each of 96 parts with no data one name.
+fn name_all(b: &mut [u8; 2048], name: u32) {
+    let mut k: u8 = 0;
+    while k < 96 {
+        put(b, 416 + 8 * (k as usize), name);
+        k += 1;
+    }
+}
+
+fn all_private() {
+    let mut b = [0u8; 2048];
+    many(&mut b, 96);
+    name_all(&mut b, part_table::name_number(b"PRIV"));
+    print(b"96 PRIV:");
+    read(&b, 1184);
+    entry(table(&b, 1184), 95);
+    occurrence(&b, 1184, b"PRIV", 95);
+    occurrence(&b, 1184, b"PRIV", 96);
+}
+
+fn no_part() {
+    let mut b = [0u8; 2048];
+    header(&mut b, 40, 0);
+    print(b"no part, 8 bytes after:");
+    read(&b, 40);
+    occurrence(&b, 40, b"PRIV", 0);
 }
 
 // A lookup in a table, at a count that may be above 96.
@@ -364,6 +460,12 @@ fn main() {
     entries();
     lookups();
     searches();
+    several_private();
+    others_repeat(b"DXIL");
+    others_repeat(b"priv");
+    others_repeat(b"PRIV");
+    all_private();
+    no_part();
     known(b"DXIL");
     known(b"DXBC");
     known(b"VERS");

@@ -19,9 +19,22 @@ fn whole(line: Line)
     text(&bytes[..len]);
 }
 
-// A part, to the end of its line: its name, where its header starts, its data size, and whether the name is known.
+// A line without its last byte, the line's end.
+fn open_ended(line: Line)
+    requires { ⌜ Counts (line .len) (line .bytes) ⌝ }
+{
+    let bytes = line.bytes;
+    let len = line.len;
+    let shown = &bytes[..len];
+    let n = shown.len();
+    if 0 < n {
+        text(&shown[..n - 1]);
+    }
+}
+
+// A part, for more to follow on its line: its name, where its header starts, its data size, and whether the name is known.
 pub fn part(x: u32, offset: u32, size: u32) {
-    whole(lines::part(x, offset, size));
+    open_ended(lines::part(x, offset, size));
 }
 
 // A refusal's line: its number and place.

@@ -90,7 +90,15 @@ cField Unset = record { set = 0; value = 0 }
 
 unfoldable pub cTable : Table → CTable
 cTable t =
-    record { verdict = cVerdict (t .verdict); count = t .count; names = t .names; offsets = t .offsets; sizes = t .sizes }
+    record {
+      verdict = cVerdict (t .verdict);
+      count = t .count;
+      names = t .names;
+      offsets = t .offsets;
+      sizes = t .sizes;
+      occurrences = t .occurrences;
+      gaps = t .gaps;
+    }
 
 unfoldable pub cPart : Part → CPart
 cPart p = record { verdict = cVerdict (p .verdict); number = p .number; offset = p .offset; size = p .size }

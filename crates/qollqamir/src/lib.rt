@@ -39,10 +39,10 @@ ghost use Rattle.assembler_layout.specs.Answer as assembly;
 ghost use Rattle.constants.specs.Edition.{fileEdition};
 ghost use Rattle.constants.specs.Name.{isKnown};
 ghost use Rattle.container.specs.Opened.{containerOpeningOf};
-ghost use Rattle.container_layout.specs.Container.{psvOf, containerJudged, containerAnswered, containerPart};
+ghost use Rattle.container_layout.specs.Container.{psvOf, containerJudged, containerAnswered, containerPart, containerOccurrence};
 ghost use Rattle.dxil_layout.specs.Program.{programOf};
 ghost use Rattle.dxil_report_layout.specs.Reported.{programReportOf};
-ghost use Rattle.part_table_layout.specs.Lookup.{partOf};
+ghost use Rattle.part_table_layout.specs.Lookup.{partOf, occurrenceOf};
 ghost use Rattle.part_table_layout.specs.Table.{tableOf};
 ghost use Rattle.psv0_layout.specs.Answers.{openingOf, infoAnswerOf, resourceAnswerOf, elementAnswerOf, lengthsAnswerOf, refusedInfo, refusedResource, refusedElement, questionOf, pointsOf, bytesOf, bytesBeside};
 ghost use Rattle.psv0_layout.specs.Judged.{opened};
@@ -79,6 +79,8 @@ pub struct CTable {
     pub names: [u32; 96],
     pub offsets: [u32; 96],
     pub sizes: [u32; 96],
+    pub occurrences: [u32; 96],
+    pub gaps: [u32; 96],
 }
 
 // A part: its number, where its header starts and its data size.
@@ -545,12 +547,16 @@ fn c_table(t: Table) -> CTable
     let names = t.names;
     let offsets = t.offsets;
     let sizes = t.sizes;
+    let occurrences = t.occurrences;
+    let gaps = t.gaps;
     CTable {
         verdict: c_verdict(v),
         count: t.count,
         names,
         offsets,
         sizes,
+        occurrences,
+        gaps,
     }
 }
 
@@ -1046,12 +1052,24 @@ pub extern "C" fn qollqamir_table(b: &[u8]) -> CTable
     c_table(part_table::read(b))
 }
 
-// A part by its name, from the table alone: 1 to 9, then 26.
+// The first part with a name, from the table alone: 1 to 9, then 26.
 #[no_mangle]
 pub extern "C" fn qollqamir_table_part(b: &[u8], name: &[u8; 4]) -> CPart
     ensures { λ r. ⌜ r ≡ cPart (partOf (now (b .entry)) (u32At (now (name .entry)) 0)) ⌝ }
 {
     c_part(part_table::find_part(b, name))
+}
+
+// The part with a name and an occurrence, from the table alone: 1 to 9, then 26.
+#[no_mangle]
+pub extern "C" fn qollqamir_table_part_occurrence(
+    b: &[u8],
+    name: &[u8; 4],
+    occurrence: usize,
+) -> CPart
+    ensures { λ r. ⌜ r ≡ cPart (occurrenceOf (now (b .entry)) (u32At (now (name .entry)) 0) occurrence) ⌝ }
+{
+    c_part(part_table::find_part_occurrence(b, name, occurrence))
 }
 
 // Whether a name is one of the 24 that are known.
@@ -1078,12 +1096,25 @@ pub extern "C" fn qollqamir_open_default(b: &[u8]) -> COpening
     c_opening(container::open_default(b))
 }
 
-// A part by its name, of a container that opens at an edition.
+// The first part with a name, of a container that opens at an edition.
 #[no_mangle]
 pub extern "C" fn qollqamir_part(b: &[u8], edition: usize, name: &[u8; 4]) -> CPart
     ensures { λ r. ⌜ r ≡ cPart (containerPart edition (now (b .entry)) (u32At (now (name .entry)) 0)) ⌝ }
 {
     c_part(container::part(b, edition, name))
+}
+
+// The part with a name and an occurrence, of a container that opens at an edition.
+#[no_mangle]
+pub extern "C" fn qollqamir_part_occurrence(
+    b: &[u8],
+    edition: usize,
+    name: &[u8; 4],
+    occurrence: usize,
+) -> CPart
+    ensures { λ r. ⌜ r ≡ cPart (containerOccurrence edition (now (b .entry)) (u32At (now (name .entry)) 0) occurrence) ⌝ }
+{
+    c_part(container::part_occurrence(b, edition, name, occurrence))
 }
 
 // The fields of the runtime record.

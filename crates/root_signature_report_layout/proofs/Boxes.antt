@@ -8,7 +8,7 @@ use Rattle.wire.specs.Number.{u16At, u32At}
 use Rattle.wire.specs.Verdict.{_then_, check, when, from, each}
 use Rattle.wire.specs.declared.Verdict.the-variants.{Accepted, Refused}
 use Rattle.part_table_layout.specs.Lookup.{find}
-use Rattle.part_table_layout.specs.Table.{countOf, offsetAt, nameAt, sizeAt, dataAt, endAt, earliest, partJudged, nameJudged, headerJudged, partsJudged, tableJudged}
+use Rattle.part_table_layout.specs.Table.{countOf, offsetAt, nameAt, sizeAt, dataAt, endAt, earliest, partJudged, mayRepeat, mayStand, nameJudged, headerJudged, partsJudged, tableJudged}
 use Rattle.psv0_layout.specs.Judged.{headJudged, fieldsJudged, bodyFits, elementsJudged, entryJudged, judgedAt}
 use Rattle.psv0_layout.specs.Layout.{counted, afterCounted, countedFits, records, afterRecords, recordsFit, sections, bodyOf, seen}
 use Rattle.psv0_layout.specs.declared.Field.the-variants.{Set, Unset}
@@ -76,5 +76,5 @@ said =
     ∷ []
 
 pub boxes-hold : given ≡ said
-unfolding u16At u32At _then_ check when from each find countOf offsetAt nameAt sizeAt dataAt endAt earliest partJudged nameJudged headerJudged partsJudged tableJudged headJudged fieldsJudged bodyFits elementsJudged entryJudged judgedAt counted afterCounted countedFits records afterRecords recordsFit sections bodyOf seen psvOf beforePsv containerJudged dataNamed reported in11 rangeSize parameterAt typeAt visibilityAt dataOf dataSize rangesOf rangeAt rootHeaderJudged ownJudged typeJudged dataJudged rangesJudged parameterJudged itemJudged rootJudged parameterOf itemAt rangeOf headerOf itemThere rangeThere rootReported rootReportOf itemReported itemReportOf rangeReportOf
+unfolding u16At u32At _then_ check when from each find countOf offsetAt nameAt sizeAt dataAt endAt earliest partJudged mayRepeat mayStand nameJudged headerJudged partsJudged tableJudged headJudged fieldsJudged bodyFits elementsJudged entryJudged judgedAt counted afterCounted countedFits records afterRecords recordsFit sections bodyOf seen psvOf beforePsv containerJudged dataNamed reported in11 rangeSize parameterAt typeAt visibilityAt dataOf dataSize rangesOf rangeAt rootHeaderJudged ownJudged typeJudged dataJudged rangesJudged parameterJudged itemJudged rootJudged parameterOf itemAt rangeOf headerOf itemThere rangeThere rootReported rootReportOf itemReported itemReportOf rangeReportOf
 boxes-hold = refl

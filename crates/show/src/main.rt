@@ -108,11 +108,16 @@ fn string(b: &[u8], edition: usize, view: View) {
 
 // ---- the part table
 
-fn part(i: usize, x: u32, offset: u32, size: u32) {
+fn part(i: usize, x: u32, offset: u32, size: u32, occurrence: u32, gap: u32) {
     text(b"part ");
     number(i);
     text(b" ");
     printing::part(x, offset, size);
+    text(b" occurrence ");
+    number(occurrence as usize);
+    text(b" gap ");
+    number(gap as usize);
+    text(b"\n");
 }
 
 fn parts(b: &[u8]) {
@@ -124,7 +129,14 @@ fn parts(b: &[u8]) {
     let mut i = 0;
     while i < 96 {
         if i < n {
-            part(i, t.names[i], t.offsets[i], t.sizes[i]);
+            part(
+                i,
+                t.names[i],
+                t.offsets[i],
+                t.sizes[i],
+                t.occurrences[i],
+                t.gaps[i],
+            );
         }
         i += 1;
     }

@@ -10,7 +10,7 @@ use Rattle.wire.specs.Verdict.{_then_, check, when, from, each}
 use Rattle.wire.specs.declared.Verdict.the-variants.{Accepted, Refused}
 use Rattle.utf8_layout.specs.Sequence.{table, fits, front, more, after, counted as countedIn, wellFormed, codePoints}
 use Rattle.part_table_layout.specs.Lookup.{find}
-use Rattle.part_table_layout.specs.Table.{countOf, offsetAt, nameAt, sizeAt, dataAt, endAt, earliest, partJudged, nameJudged, headerJudged, partsJudged, tableJudged}
+use Rattle.part_table_layout.specs.Table.{countOf, offsetAt, nameAt, sizeAt, dataAt, endAt, earliest, partJudged, mayRepeat, mayStand, nameJudged, headerJudged, partsJudged, tableJudged}
 use Rattle.part_table_layout.specs.declared.Found.the-variants.{At as Number, Nothing}
 use Rattle.psv0_layout.specs.Field.{maskWords, sum}
 use Rattle.psv0_layout.specs.Judged.{headJudged, fieldsJudged, bodyFits, elementJudged, elementsJudged, entryJudged, judgedAt}
@@ -119,5 +119,5 @@ said =
     ∷ []
 
 pub boxes-hold : given ≡ said
-unfolding table fits front more after countedIn wellFormed codePoints u16At u32At sameBytes _then_ check when from each find countOf offsetAt nameAt sizeAt dataAt endAt earliest partJudged nameJudged headerJudged partsJudged tableJudged maskWords sum headJudged fieldsJudged bodyFits elementJudged elementsJudged entryJudged judgedAt counted afterCounted countedFits records afterRecords recordsFit rows sections bodyOf seen hasZero untilZero stringEnds stringAt stringGood indexGood value shownAt psvOf beforePsv containerJudged containerAnswered dataNamed reported elementAt nameEnds nameGood signatureNameJudged signatureJudged nameOf signatureReported signatureReportOf elementReported elementReportOf psvName differsAt firstDifference differenceOf
+unfolding table fits front more after countedIn wellFormed codePoints u16At u32At sameBytes _then_ check when from each find countOf offsetAt nameAt sizeAt dataAt endAt earliest partJudged mayRepeat mayStand nameJudged headerJudged partsJudged tableJudged maskWords sum headJudged fieldsJudged bodyFits elementJudged elementsJudged entryJudged judgedAt counted afterCounted countedFits records afterRecords recordsFit rows sections bodyOf seen hasZero untilZero stringEnds stringAt stringGood indexGood value shownAt psvOf beforePsv containerJudged containerAnswered dataNamed reported elementAt nameEnds nameGood signatureNameJudged signatureJudged nameOf signatureReported signatureReportOf elementReported elementReportOf psvName differsAt firstDifference differenceOf
 boxes-hold = refl

@@ -95,8 +95,8 @@ module _ (s : SignaturePart) (k : ℕ) (b : List ℕ) {r : Part} (hr : r ≡ con
       pub element-room : (o n c : ℕ) → a .name ≡ At o n c → r .offset + 8 + o ≤ 16777216
       element-room o n c e =
           let l = name-inside (signatureData s b) i (rw element-is at e) in
-          let f = part-fits k b (partName s) hr h in
-          let t = part-short k b (partName s) hr h in
+          let f = part-fits k b (partName s) 0 hr h in
+          let t = part-short k b (partName s) 0 hr h in
           omega (arith, simp (length-take, length-drop) at (ap length data-is))
 
       pub element-moved : {q : SignatureAnswer} → q ≡ moved (r .offset + 8) a → q ≡ elementReportOf s k b i

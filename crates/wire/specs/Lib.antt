@@ -2,4 +2,5 @@ pub mod Choice
 pub mod Number
 pub mod Search
 pub mod Stretch
+pub mod Sum
 pub mod Verdict

@@ -10,7 +10,7 @@ use reference::{Opening, Program, ProgramReport, Refusal, Text};
 use crate::make::get4;
 use crate::random::Random;
 use crate::strings::{ends_entry_name, Notes, Sections, Way};
-use crate::{roots, signatures};
+use crate::{entries, roots, signatures};
 
 /// A difference, and the bytes it was seen on.
 #[derive(Debug)]
@@ -39,6 +39,8 @@ pub(crate) use same;
 #[derive(Clone, Copy)]
 pub enum Call {
     Table,
+    TablePart,
+    Part,
     Open,
     Default,
     Psv0,
@@ -77,8 +79,10 @@ const REPORTED: &[u8] = opening_and!(26, 43, 44, 45, 52);
 const ROOTED: &[u8] = opening_and!(26, 46, 47, 48, 49, 50, 51);
 
 /// The calls, and the numbers that each can give.
-pub const CALLS: [(&str, &[u8]); 25] = [
+pub const CALLS: [(&str, &[u8]); 27] = [
     ("table", &[1, 2, 3, 4, 5, 6, 7, 8, 9]),
+    ("table part", &[1, 2, 3, 4, 5, 6, 7, 8, 9, 26]),
+    ("part", opening_and!(26)),
     ("open", opening_and!()),
     ("default", &[1, 2, 3, 4, 5, 6, 7, 8, 9, 10, 11, 12, 13, 14, 15, 16, 17, 18, 19, 20, 21, 22, 23, 24]),
     ("psv0", &[2, 12, 13, 14, 15, 16, 17, 18, 19, 20, 21, 22, 23, 24, 25]),
@@ -326,7 +330,7 @@ pub const EDGES: [&str; 9] = [
 ];
 
 /// How often each call gave each verdict (0: it accepted), and at which places; how often each of `SEEN` came, and of `EDGES` in a
-/// reading and in a writer; what the strings were.
+/// reading and in a writer; what the strings and the tables' entries were.
 pub struct Hits {
     pub counts: [[u64; NUMBERS]; CALLS.len()],
     pub places: [[BTreeSet<usize>; NUMBERS]; CALLS.len()],
@@ -334,6 +338,7 @@ pub struct Hits {
     pub edges_read: [u64; EDGES.len()],
     pub edges_written: [u64; EDGES.len()],
     pub strings: Notes,
+    pub entries: entries::Notes,
 }
 
 impl Default for Hits {
@@ -345,6 +350,7 @@ impl Default for Hits {
             edges_read: [0; EDGES.len()],
             edges_written: [0; EDGES.len()],
             strings: Notes::default(),
+            entries: entries::Notes::default(),
         }
     }
 }
@@ -407,11 +413,15 @@ pub fn field(value: Option<u32>) -> raw::Field {
 }
 
 fn parts_of(answer: &Result<Vec<reference::Part>, Refusal>) -> raw::Parts {
-    let mut parts = raw::Parts { verdict: verdict_of(answer), count: 0, names: [0; 96], offsets: [0; 96], sizes: [0; 96] };
+    let none = [0; 96];
+    let verdict = verdict_of(answer);
+    let mut parts = raw::Parts { verdict, count: 0, names: none, offsets: none, sizes: none, occurrences: none, gaps: none };
     for part in answer.as_deref().unwrap_or(&[]) {
         parts.names[parts.count] = u32::from_le_bytes(part.name);
         parts.offsets[parts.count] = part.offset as u32;
         parts.sizes[parts.count] = part.size as u32;
+        parts.occurrences[parts.count] = part.occurrence as u32;
+        parts.gaps[parts.count] = part.gap as u32;
         parts.count += 1;
     }
     parts
@@ -422,7 +432,7 @@ pub fn start_in(bytes: &[u8], view: &[u8]) -> usize {
     view.as_ptr() as usize - bytes.as_ptr() as usize
 }
 
-fn found_of(bytes: &[u8], answer: Result<(usize, &[u8]), Refusal>) -> raw::Found {
+pub fn found_of(bytes: &[u8], answer: Result<(usize, &[u8]), Refusal>) -> raw::Found {
     let verdict = verdict_of(&answer);
     match answer {
         Ok((number, data)) => raw::Found { verdict, number, offset: start_in(bytes, data) - 8, size: data.len() },
@@ -675,19 +685,34 @@ pub fn numbers(random: &mut Random, count: usize) -> Vec<usize> {
     numbers
 }
 
+/// All of a table is compared, entries past the count too. Of a difference the entry is told.
+fn same_table(bytes: &[u8], got: &raw::Parts, expected: &raw::Parts) -> Check {
+    if got == expected {
+        return Ok(());
+    }
+    same!(bytes, got.count, expected.count, "count of the table");
+    for i in 0..96 {
+        let entry = |t: &raw::Parts| [t.names[i], t.offsets[i], t.sizes[i], t.occurrences[i], t.gaps[i]];
+        same!(bytes, entry(got), entry(expected), "name, offset, size, occurrence and gap of entry {i}");
+    }
+    same!(bytes, got, expected, "table");
+    Ok(())
+}
+
 /// The table calls on any bytes.
 pub fn table(random: &mut Random, bytes: &[u8], hits: &mut Hits) -> Check {
     let expected = reference::table(bytes);
     let got = raw::table(bytes);
     hits.note(Call::Table, got.verdict);
-    same!(bytes, got, parts_of(&expected), "table");
+    same!(bytes, got.verdict, verdict_of(&expected), "table");
+    same_table(bytes, &got, &parts_of(&expected))?;
     for name in names(random, expected.as_deref().unwrap_or(&[])) {
         let got = raw::table_part(bytes, &name);
         hits.note(Call::Query, got.verdict);
         same!(bytes, got, found_of(bytes, reference::table_part(bytes, name)), "table_part {name:?}");
         same!(bytes, raw::known(&name), reference::known(name), "known {name:?}");
     }
-    Ok(())
+    entries::table(random, bytes, &got, &expected, hits)
 }
 
 /// Names to ask for: the two that matter, one of the container's, one that is hardly there.
@@ -723,6 +748,7 @@ pub fn reading(random: &mut Random, reader: &Reader, bytes: &[u8], edition: usiz
             hits.note(Call::Query, got.verdict);
             same!(bytes, got, found_of(bytes, answer), "part {edition} {name:?}");
         }
+        entries::query(random, bytes, edition, &expected, hits)?;
         program(bytes, edition, hits)?;
         signatures::reports(random, bytes, edition, &expected, hits)?;
         roots::reports(random, bytes, edition, &expected, hits)?;
@@ -775,7 +801,7 @@ pub fn reading(random: &mut Random, reader: &Reader, bytes: &[u8], edition: usiz
     let section = random.pick(&[6, 7, 256, u32::MAX]);
     span(bytes, (reader.section)(bytes, edition, section), missing, format_args!("{name} section {edition} {section}"))?;
     if random.one_in(8) {
-        wrapped(reader, bytes, edition, opening)?;
+        wrapped(reader, bytes, edition, opening, hits)?;
     }
     Ok(())
 }
@@ -881,7 +907,7 @@ pub fn in_turn<T: PartialEq + Debug>(
 }
 
 /// The safe types show what the plain calls show.
-fn wrapped(reader: &Reader, bytes: &[u8], edition: usize, opening: &Opening) -> Check {
+fn wrapped(reader: &Reader, bytes: &[u8], edition: usize, opening: &Opening, hits: &mut Hits) -> Check {
     let refusal = refusal_of;
     macro_rules! shown {
         ($open:expr) => {{
@@ -918,6 +944,7 @@ fn wrapped(reader: &Reader, bytes: &[u8], edition: usize, opening: &Opening) -> 
     let expected = reference::program_report(bytes, edition);
     let expected = expected.map(|r| (header_of(&r.program), r.program.bitcode, r.psv0_stage, stages_of(r.stages).1));
     same!(bytes, report, expected, "safe program {edition}");
+    entries::wrapped(bytes, &safe, opening, hits)?;
     signatures::wrapped(bytes, edition, &safe)?;
     roots::wrapped(bytes, edition, &safe)
 }
@@ -952,7 +979,12 @@ pub fn assemble(
     hits.note(Call::Assemble, got.verdict);
     let expected_written = raw::Written { verdict: verdict_of(&expected), len: *expected.as_ref().unwrap_or(&0) };
     same!(data, got, expected_written, "assemble {names:?} {sizes:?} digest {} into {}", digest.len(), out.len());
-    delivered(data, &ours, &theirs, out, expected)
+    hits.entries.assembled(names, got.verdict);
+    let made = delivered(data, &ours, &theirs, out, expected)?;
+    if let Ok(made) = &made {
+        entries::found_again(made, names, sizes, data, hits)?;
+    }
+    Ok(made)
 }
 
 fn delivered(

@@ -7,6 +7,7 @@ use qollqamir::raw;
 use crate::compare::{assemble, same, shown, write, Check, Hits, Mismatch, Reader, CONTAINER, PSV0};
 use crate::make::{container, edition_of, get4, Parts, Pieces, SIZES};
 use crate::random::Random;
+use crate::repeats::PRIV;
 
 /// Lists longer than this are compared up to it.
 const LONG: usize = 24;
@@ -156,6 +157,42 @@ pub fn roots(bytes: &[u8], openings: &[raw::Opening; 4]) -> Check {
     Ok(())
 }
 
+/// Readers agree on the PRIV parts, each by its occurrence, and on one past the last. Answers are those of an opening where it refuses.
+pub fn privates(bytes: &[u8], openings: &[raw::Opening; 4], hits: &mut Hits) -> Check {
+    let table = raw::table(bytes);
+    let count = table.names.iter().filter(|name| name.to_le_bytes() == PRIV).count();
+    for occurrence in 0..=count {
+        let found = [0, 1, 2, 3].map(|edition| raw::part_occurrence(bytes, edition, &PRIV, occurrence));
+        let reports = found.map(|found| (found.verdict, found));
+        agree(bytes, openings, &reports, format_args!("PRIV part {occurrence}"))?;
+    }
+    if count > 1 {
+        hits.entries.agreed(openings);
+    }
+    Ok(())
+}
+
+/// Every part of a widening but PSV0 is found by its name and occurrence as in the narrow container, and has the same data; one past the
+/// last PRIV part there is none.
+fn kept(bytes: &[u8], widened: &[u8], parts: &Parts, k: usize) -> Check {
+    let occurrence = |i: usize| parts[..i].iter().filter(|part| part.0 == parts[i].0).count();
+    for (i, (name, data)) in parts.iter().enumerate() {
+        let occurrence = occurrence(i);
+        for container in [bytes, widened] {
+            let found = raw::part_occurrence(container, k, name, occurrence);
+            same!(container, (found.verdict.number, found.number), (0, i), "part {name:?} {occurrence} of a widening at {k}");
+            let shown = &container[found.offset + 8..][..found.size];
+            same!(container, shown == data || name == b"PSV0", true, "data of part {name:?} {occurrence} of a widening at {k}");
+        }
+    }
+    let count = parts.iter().filter(|part| part.0 == PRIV).count();
+    for container in [bytes, widened] {
+        let past = raw::part_occurrence(container, k, &PRIV, count).verdict;
+        same!(container, past, raw::Verdict { number: 26, place: 0 }, "PRIV part {count} of a widening at {k}");
+    }
+    Ok(())
+}
+
 /// Makes a widening of pieces that reader `k` accepts, and looks whether the same is shown. Answers whether there was one to make.
 pub fn widening(random: &mut Random, pieces: &Pieces, parts: &Parts, bytes: &[u8], k: usize) -> Result<bool, Mismatch> {
     if raw::open(bytes, k).verdict.number != 0 || pieces.runtime.len() < SIZES[k] {
@@ -201,6 +238,7 @@ pub fn widening(random: &mut Random, pieces: &Pieces, parts: &Parts, bytes: &[u8
         same!(widened, differences.0, differences.1, "difference {part} of a widening at {k}");
     }
     same!(widened, root(&widened, k), root(bytes, k), "root signature of a widening at {k}");
+    kept(bytes, &widened, parts, k)?;
     Ok(true)
 }
 
@@ -272,9 +310,12 @@ pub fn reassembled(random: &mut Random, bytes: &[u8], hits: &mut Hits) -> Check 
         same!(made, made[end..offset].iter().all(|byte| *byte == 0), true, "filler before part {i}");
         let entry = (table.names[i], table.offsets[i] as usize, table.sizes[i] as usize);
         same!(made, entry, (u32::from_le_bytes(part.name), offset, part.size), "part {i}");
+        let numbers = (u64::from(table.occurrences[i]), table.gaps[i] as usize);
+        same!(made, numbers, (part.occurrence, offset - end), "occurrence and gap of part {i}");
         end = offset + 8 + part.size;
         same!(made, made[offset + 8..end], *part.data(bytes), "data of part {i}");
     }
     same!(made, (made.len(), get4(&made, 24) as usize), (end, end), "length");
+    hits.entries.again(&parts);
     Ok(())
 }

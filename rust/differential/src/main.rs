@@ -6,8 +6,10 @@
 
 mod compare;
 mod demands;
+mod entries;
 mod make;
 mod random;
+mod repeats;
 mod roots;
 mod signatures;
 mod strings;
@@ -18,7 +20,7 @@ use std::process::ExitCode;
 use std::time::Instant;
 
 use compare::{Call, Check, Hits, Mismatch, CALLS, CONTAINER, EDGES, NUMBERS, PLACED, PSV0, SEEN};
-use make::{Pieces, SIZES};
+use make::{Parts, Pieces, SIZES};
 use random::Random;
 use strings::Way;
 use text::{Frame, Table};
@@ -157,6 +159,7 @@ fn summary(done: &Done) -> Vec<String> {
         }
     }
     done.hits.strings.summary(&mut missed);
+    done.hits.entries.summary(&mut missed);
     println!("containers accepted by readers 0 to 3: {:?}", done.accepted);
     println!("widenings for readers 0 to 3: {:?}", done.widenings);
     println!("round trips: {}, of them from plain form {}", done.round_trips, done.plain);
@@ -188,7 +191,7 @@ fn vectors() -> Vec<Vec<u8>> {
 /// One container or PSV0 data, or both, looked at from every side.
 fn case(seed: u64, number: u64, vectors: &[Vec<u8>], done: &mut Done) -> Check {
     let random = &mut Random::new(seed, number);
-    match random.below(114) {
+    match random.below(122) {
         0..=3 => {
             let len = random.below(160);
             let mut bytes = random.bytes(len);
@@ -276,7 +279,8 @@ fn case(seed: u64, number: u64, vectors: &[Vec<u8>], done: &mut Done) -> Check {
         100 | 101 => dxil_case(random, done),
         102 | 103 => signature_case(random, done),
         104 | 105 => root_case(random, done),
-        _ => text_case(random, done),
+        106..=113 => text_case(random, done),
+        _ => repeat_case(random, done),
     }
 }
 
@@ -295,6 +299,7 @@ fn valid(random: &mut Random, done: &mut Done) -> Check {
     let k = random.below(4);
     if demands::widening(random, &pieces, &parts, &bytes, k)? {
         done.widenings[k] += 1;
+        done.hits.entries.widening(&parts, k);
     }
     if random.one_in(4) {
         demands::reassembled(random, &bytes, &mut done.hits)?;
@@ -338,6 +343,7 @@ fn container_case(random: &mut Random, bytes: &[u8], done: &mut Done) -> Check {
         let openings = [0, 1, 2, 3].map(|edition| qollqamir::raw::open(bytes, edition));
         demands::signatures(bytes, &openings)?;
         demands::roots(bytes, &openings)?;
+        demands::privates(bytes, &openings, &mut done.hits)?;
     }
     if let Ok((_, data)) = reference::table_part(bytes, *b"DXIL") {
         compare::dxil(data, &mut done.hits)?;
@@ -549,15 +555,24 @@ fn write_case(random: &mut Random, done: &mut Done) -> Check {
     Ok(())
 }
 
+/// Names for the assembler, of some of which several are PRIV.
+fn any_names(random: &mut Random) -> Vec<u8> {
+    if random.one_in(3) {
+        return repeats::names(random).concat();
+    }
+    let count = match random.below(20) {
+        0 => random.pick(&[95, 96, 97, 98]),
+        1 => random.below(97),
+        _ => random.below(6),
+    };
+    random.bytes(4 * count)
+}
+
 /// The assembler on parts that are right or break a rule.
 fn assemble_case(random: &mut Random, done: &mut Done) -> Check {
     for _ in 0..4 {
-        let count = match random.below(20) {
-            0 => random.pick(&[95, 96, 97, 98]),
-            1 => random.below(97),
-            _ => random.below(6),
-        };
-        let mut names = random.bytes(4 * count);
+        let mut names = any_names(random);
+        let count = names.len() / 4;
         let mut sizes: Vec<u32> = (0..count).map(|_| random.below(12) as u32).collect();
         let len: usize = sizes.iter().sum::<u32>() as usize;
         let mut data = random.bytes(len);
@@ -598,6 +613,46 @@ fn assemble_case(random: &mut Random, done: &mut Done) -> Check {
         }
     }
     Ok(())
+}
+
+/// Tables in which names repeat, or with no part: as made, damaged, cut or lengthened, and assembled; now and then all calls on them.
+fn repeat_case(random: &mut Random, done: &mut Done) -> Check {
+    for _ in 0..2 {
+        let names = if random.one_in(8) { Vec::new() } else { repeats::names(random) };
+        let parts = repeats::filled(random, &names);
+        let (bytes, fields) = repeats::container(random, &parts);
+        compare::table(random, &bytes, &mut done.hits)?;
+        if bytes.len() < 4096 && random.one_in(8) {
+            container_case(random, &bytes, done)?;
+        }
+        let mut damaged = bytes;
+        if random.one_in(4) {
+            make::resize(random, &mut damaged);
+            let len = damaged.len() as u32;
+            if len >= 28 {
+                make::put4(&mut damaged, 24, len);
+            }
+        } else {
+            make::damage(random, &mut damaged, &fields);
+        }
+        compare::table(random, &damaged, &mut done.hits)?;
+        assembled_case(random, &parts, done)?;
+    }
+    Ok(())
+}
+
+/// Parts assembled, with room for them or a byte less, and the table of the result.
+fn assembled_case(random: &mut Random, parts: &Parts, done: &mut Done) -> Check {
+    let names: Vec<u8> = parts.iter().flat_map(|part| part.0).collect();
+    let sizes: Vec<u32> = parts.iter().map(|part| part.1.len() as u32).collect();
+    let data: Vec<u8> = parts.iter().flat_map(|part| part.1.clone()).collect();
+    let room = random.bytes(data.len() + 16 * parts.len() + 64);
+    let digest = random.bytes(16);
+    let Ok(made) = compare::assemble(&names, &sizes, &data, &digest, &room, &mut done.hits)? else {
+        return Ok(());
+    };
+    compare::assemble(&names, &sizes, &data, &digest, &room[..made.len() - 1], &mut done.hits).map(drop)?;
+    compare::table(random, &made, &mut done.hits)
 }
 
 /// Inputs and results of the greatest length, and one byte or word more.
@@ -643,6 +698,7 @@ fn longest(hits: &mut Hits) -> Check {
     }
     roots_far(random, hits)?;
     long_strings(random, hits)?;
+    privates_far(random, hits)?;
     // 52 bytes beside the strings of edition 1; 44 beside the data of one part.
     let mut runtime = [0; 36];
     runtime[24] = 1;
@@ -701,6 +757,43 @@ fn long_names(random: &mut Random, table: &[u8], names: &[usize], entry: usize, 
     compare::texts(&PSV0, &psv0, 3, hits)?;
     hits.strings.sections(&pieces.judged(), qollqamir::raw::psv0_open(&psv0, 3).verdict, Way::Read);
     compare::write(3, pieces.sections(), &vec![7; psv0.len()], hits).map(drop)
+}
+
+/// Several PRIV parts in files of the greatest length and one byte more, most of it a gap or the data of one part, wherever it lies; and such
+/// files with no part.
+fn privates_far(random: &mut Random, hits: &mut Hits) -> Check {
+    let parts: Parts = [*b"PRIV", *b"HASH", *b"PRIV", *b"PRIV"].map(|name| (name, vec![7; 3])).to_vec();
+    let front = 32 + 4 * parts.len();
+    let narrow = make::spaced(random, &parts, |_| 0).0;
+    for len in [LONGEST, LONGEST + 1] {
+        let more = len - narrow.len();
+        for i in 0..=parts.len() {
+            // The parts from i on move.
+            let at = front + 11 * i;
+            let mut bytes = narrow[..at].to_vec();
+            bytes.resize(at + more, 9);
+            bytes.extend_from_slice(&narrow[at..]);
+            make::put4(&mut bytes, 24, len as u32);
+            for moved in i..parts.len() {
+                make::put4(&mut bytes, 32 + 4 * moved, (front + 11 * moved + more) as u32);
+            }
+            compare::table(random, &bytes, hits)?;
+            // The same bytes as data of the part before.
+            if i > 0 {
+                make::put4(&mut bytes, at - 7, (3 + more) as u32);
+                compare::table(random, &bytes, hits)?;
+            }
+        }
+        let mut none = make::spaced(random, &Parts::new(), |_| 0).0;
+        none.resize(len, 9);
+        make::put4(&mut none, 24, len as u32);
+        compare::table(random, &none, hits)?;
+        // Two PRIV parts of an even length, assembled.
+        let size = (LONGEST - 56) / 2;
+        let (sizes, data) = ([size as u32, (size + len - LONGEST) as u32], vec![5; 2 * size + len - LONGEST]);
+        compare::assemble(b"PRIVPRIV", &sizes, &data, &[7; 16], &none, hits).map(drop)?;
+    }
+    Ok(())
 }
 
 /// Root signature data alone, longer than a container or with more items than 16 bits count.

@@ -4,7 +4,7 @@ use reference::SignaturePart;
 
 use crate::random::Random;
 use crate::strings::Sections;
-use crate::text;
+use crate::{repeats, text};
 
 pub const SIZES: [usize; 4] = [24, 36, 48, 52];
 
@@ -822,7 +822,7 @@ fn flawed(random: &mut Random, flaw: fn(&mut Random, &mut Vec<u8>), right: impl 
 /// The parts of a container, in order.
 pub type Parts = Vec<([u8; 4], Vec<u8>)>;
 
-/// Parts of which one is DXIL and one PSV0.
+/// Parts of which one is DXIL and one PSV0; of some several are PRIV.
 pub fn parts(random: &mut Random, psv0: &[u8]) -> Parts {
     let others = match random.below(400) {
         0 => 94,
@@ -863,11 +863,19 @@ pub fn parts(random: &mut Random, psv0: &[u8]) -> Parts {
     parts.insert(at, (*b"DXIL", dxil(random, stage)));
     let at = if random.one_in(2) { parts.len() } else { random.below(parts.len() + 1) };
     parts.insert(at, (*b"PSV0", psv0.to_vec()));
+    if random.one_in(4) {
+        repeats::scatter(random, &mut parts);
+    }
     parts
 }
 
 /// A container, with gaps and bytes at its end now and then, and where its ruling numbers stand.
 pub fn container(random: &mut Random, parts: &[([u8; 4], Vec<u8>)]) -> (Vec<u8>, Vec<usize>) {
+    spaced(random, parts, |random| if random.one_in(6) { random.below(9) } else { 0 })
+}
+
+/// The same with gaps of the lengths that are given, one by one; the bytes at the end are the last.
+pub fn spaced(random: &mut Random, parts: &[([u8; 4], Vec<u8>)], gap: fn(&mut Random) -> usize) -> (Vec<u8>, Vec<usize>) {
     let mut bytes = b"DXBC".to_vec();
     bytes.extend_from_slice(&random.bytes(16));
     bytes.extend_from_slice(&[1, 0, 0, 0, 0, 0, 0, 0]);
@@ -875,7 +883,8 @@ pub fn container(random: &mut Random, parts: &[([u8; 4], Vec<u8>)]) -> (Vec<u8>,
     let mut fields = vec![0, 20, 24, 28];
     bytes.resize(32 + 4 * parts.len(), 0);
     for (i, (name, data)) in parts.iter().enumerate() {
-        gap(random, &mut bytes);
+        let len = gap(random);
+        fill(random, &mut bytes, len);
         let at = bytes.len();
         put4(&mut bytes, 32 + 4 * i, at as u32);
         fields.extend([32 + 4 * i, at, at + 4]);
@@ -883,15 +892,22 @@ pub fn container(random: &mut Random, parts: &[([u8; 4], Vec<u8>)]) -> (Vec<u8>,
         push4(&mut bytes, data.len());
         bytes.extend_from_slice(data);
     }
-    gap(random, &mut bytes);
+    let len = gap(random);
+    fill(random, &mut bytes, len);
     let len = bytes.len() as u32;
     put4(&mut bytes, 24, len);
     (bytes, fields)
 }
 
-fn gap(random: &mut Random, bytes: &mut Vec<u8>) {
-    if random.one_in(6) {
-        let len = random.below(9);
+/// Adds the bytes of a gap: any, or ones that look like parts.
+fn fill(random: &mut Random, bytes: &mut Vec<u8>, len: usize) {
+    let end = bytes.len() + len;
+    if random.one_in(4) {
+        while bytes.len() < end {
+            bytes.extend_from_slice(b"PRIV\0\0\0\0");
+        }
+        bytes.truncate(end);
+    } else {
         bytes.extend_from_slice(&random.bytes(len));
     }
 }

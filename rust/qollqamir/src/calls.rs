@@ -38,6 +38,8 @@ structs! {
         names: [u32; 96],
         offsets: [u32; 96],
         sizes: [u32; 96],
+        occurrences: [u32; 96],
+        gaps: [u32; 96],
     }
 
     /// A part: its number, the offset of its header and its data size.
@@ -262,10 +264,12 @@ mod archive {
     extern "C" {
         pub fn qollqamir_table(bytes: *const u8, len: usize) -> Parts;
         pub fn qollqamir_table_part(bytes: *const u8, len: usize, name: *const u8) -> Found;
+        pub fn qollqamir_table_part_occurrence(bytes: *const u8, len: usize, name: *const u8, occurrence: usize) -> Found;
         pub fn qollqamir_known(name: *const u8) -> bool;
         pub fn qollqamir_open(bytes: *const u8, len: usize, edition: usize) -> Opening;
         pub fn qollqamir_open_default(bytes: *const u8, len: usize) -> Opening;
         pub fn qollqamir_part(bytes: *const u8, len: usize, edition: usize, name: *const u8) -> Found;
+        pub fn qollqamir_part_occurrence(bytes: *const u8, len: usize, edition: usize, name: *const u8, occurrence: usize) -> Found;
         pub fn qollqamir_runtime_info(bytes: *const u8, len: usize, edition: usize) -> Info;
         pub fn qollqamir_resource(bytes: *const u8, len: usize, edition: usize, i: usize) -> Resource;
         pub fn qollqamir_element(bytes: *const u8, len: usize, edition: usize, i: usize) -> Element;
@@ -415,10 +419,16 @@ readers! {
     root_range => qollqamir_root_range(edition: usize, i: usize, j: usize) -> RangeRecord;
 }
 
-/// A part by its name from the table alone: 1 to 9, 26.
+/// The first part with a name, from the table alone: 1 to 9, 26.
 pub fn table_part(bytes: &[u8], name: &[u8; 4]) -> Found {
     // SAFETY: as said above.
     unsafe { archive::qollqamir_table_part(bytes.as_ptr(), bytes.len(), name.as_ptr()) }
+}
+
+/// The part with a name and an occurrence, from the table alone: 1 to 9, 26.
+pub fn table_part_occurrence(bytes: &[u8], name: &[u8; 4], occurrence: usize) -> Found {
+    // SAFETY: as said above.
+    unsafe { archive::qollqamir_table_part_occurrence(bytes.as_ptr(), bytes.len(), name.as_ptr(), occurrence) }
 }
 
 /// Whether a name is one of the 24 that are known.
@@ -427,10 +437,16 @@ pub fn known(name: &[u8; 4]) -> bool {
     unsafe { archive::qollqamir_known(name.as_ptr()) }
 }
 
-/// A part by its name, of a container that opens at an edition, or 26.
+/// The first part with a name, of a container that opens at an edition, or 26.
 pub fn part(bytes: &[u8], edition: usize, name: &[u8; 4]) -> Found {
     // SAFETY: as said above.
     unsafe { archive::qollqamir_part(bytes.as_ptr(), bytes.len(), edition, name.as_ptr()) }
+}
+
+/// The part with a name and an occurrence, of a container that opens at an edition, or 26.
+pub fn part_occurrence(bytes: &[u8], edition: usize, name: &[u8; 4], occurrence: usize) -> Found {
+    // SAFETY: as said above.
+    unsafe { archive::qollqamir_part_occurrence(bytes.as_ptr(), bytes.len(), edition, name.as_ptr(), occurrence) }
 }
 
 /// Writes PSV0 data from the bytes of its six sections: 25, 27, 2, 15 to 24, 28.

@@ -77,6 +77,17 @@ pub struct Part<'a> {
     pub data: &'a [u8],
 }
 
+/// An entry of the part table.
+#[derive(Clone, Copy, Debug, PartialEq, Eq)]
+pub struct Entry<'a> {
+    /// The part.
+    pub part: Part<'a>,
+    /// How many earlier parts bear its name; 0 for every name but PRIV, which alone may repeat.
+    pub occurrence: usize,
+    /// How many bytes lie before its header, after the part before it or, for the first, after the offset table.
+    pub gap: usize,
+}
+
 /// A string of the file, without its zero. The reader accepts well-formed UTF-8 alone, by the Unicode Standard's table, which is what `str` asks for.
 #[derive(Clone, Copy, Debug, PartialEq, Eq, Hash)]
 pub struct Text<'a> {
@@ -305,21 +316,44 @@ fn lengths_of(lengths: raw::Lengths) -> Lengths {
 }
 
 /// The part table alone: refusals 1 to 9.
-pub fn table(bytes: &[u8]) -> Result<Vec<Part<'_>>, Refusal> {
+pub fn table(bytes: &[u8]) -> Result<Vec<Entry<'_>>, Refusal> {
     let parts = raw::table(bytes);
     judged(parts.verdict)?;
     Ok((0..parts.count)
         .map(|number| {
             let offset = parts.offsets[number] as usize;
             let data = &bytes[offset + 8..][..parts.sizes[number] as usize];
-            Part { name: parts.names[number].to_le_bytes(), number, offset, data }
+            let part = Part { name: parts.names[number].to_le_bytes(), number, offset, data };
+            Entry { part, occurrence: parts.occurrences[number] as usize, gap: parts.gaps[number] as usize }
         })
         .collect())
 }
 
-/// A part by its name, from the part table alone: refusals 1 to 9, then 26.
+/// The parts with a name, in their order, from one reading of the part table alone: refusals 1 to 9. Of several PRIV parts, entry i is what
+/// [`table_part_occurrence`] finds by the number i.
+///
+/// ```
+/// use qollqamir::{assemble, table_parts};
+///
+/// let mut out = [0; 128];
+/// let len = assemble(b"PRIVSFI0PRIV", &[1, 0, 2], b"abb", &[0; 16], &mut out)?;
+///
+/// let notes: Vec<_> = table_parts(&out[..len], *b"PRIV")?.map(|entry| entry.part.data).collect();
+/// assert_eq!(notes, [&b"a"[..], b"bb"]);
+/// # Ok::<(), qollqamir::Refusal>(())
+/// ```
+pub fn table_parts(bytes: &[u8], name: [u8; 4]) -> Result<impl Iterator<Item = Entry<'_>>, Refusal> {
+    Ok(table(bytes)?.into_iter().filter(move |entry| entry.part.name == name))
+}
+
+/// The first part with a name, from the part table alone: refusals 1 to 9, then 26.
 pub fn table_part(bytes: &[u8], name: [u8; 4]) -> Result<Part<'_>, Refusal> {
     found(bytes, name, raw::table_part(bytes, &name))
+}
+
+/// The part with a name and an occurrence, from the part table alone: refusals 1 to 9, then 26, also where the number is too great.
+pub fn table_part_occurrence(bytes: &[u8], name: [u8; 4], occurrence: usize) -> Result<Part<'_>, Refusal> {
+    found(bytes, name, raw::table_part_occurrence(bytes, &name, occurrence))
 }
 
 /// Whether a name is one of the 24 known ones.
@@ -515,9 +549,20 @@ impl<'a> Container<'a> {
         self.part_count
     }
 
-    /// A part by its name, or 26.
+    /// The first part with a name, or 26.
     pub fn part(&self, name: [u8; 4]) -> Result<Part<'a>, Refusal> {
         found(self.bytes, name, raw::part(self.bytes, self.edition, &name))
+    }
+
+    /// The part with a name and an occurrence, or 26, also where the number is too great.
+    pub fn part_occurrence(&self, name: [u8; 4], occurrence: usize) -> Result<Part<'a>, Refusal> {
+        found(self.bytes, name, raw::part_occurrence(self.bytes, self.edition, &name, occurrence))
+    }
+
+    /// The parts with a name, in their order, from one reading of the part table.
+    pub fn parts(&self, name: [u8; 4]) -> impl Iterator<Item = Entry<'a>> {
+        // What opens has a table that passes, so the other arm is never taken.
+        table_parts(self.bytes, name).into_iter().flatten()
     }
 
     /// The report on the DXIL part: 40 to 42 as [`dxil_program`] gives them.

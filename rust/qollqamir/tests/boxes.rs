@@ -1,5 +1,5 @@
-//! The boxes M and C of document 01 through the safe calls, the program header, the signature parts, the root signature and
-//! the strings of document 02, and the last field of every struct.
+//! The boxes M and C of document 01 through the safe calls, the program header, the signature parts, the root signature, the strings and
+//! several private parts of document 02, and the last field of every struct.
 
 use qollqamir::*;
 
@@ -63,13 +63,14 @@ fn dxil(stage: u16, offset: u32, size: u32) -> Vec<u8> {
 fn box_m_is_accepted_as_edition_0() {
     let bytes = box_m(24, 24);
     assert_eq!(bytes.len(), 92);
-    let parts = table(&bytes).unwrap();
-    let shown: Vec<_> = parts.iter().map(|p| (&p.name, p.offset, p.data.len())).collect();
-    assert_eq!(shown, [(b"DXIL", 40, 4), (b"PSV0", 52, 32)]);
+    let entries = table(&bytes).unwrap();
+    let shown: Vec<_> = entries.iter().map(|e| (&e.part.name, e.part.offset, e.part.data.len(), e.occurrence, e.gap)).collect();
+    assert_eq!(shown, [(b"DXIL", 40, 4, 0, 0), (b"PSV0", 52, 32, 0, 0)]);
+    let psv0 = entries[1].part;
     for edition in 0..=3 {
         let m = Container::open(&bytes, edition).unwrap();
         assert_eq!((m.part_count(), m.edition(), m.file_edition(), m.edition_read()), (2, edition, 0, 0));
-        assert_eq!(m.part(*b"PSV0").unwrap(), parts[1]);
+        assert_eq!(m.part(*b"PSV0"), Ok(psv0));
         assert_eq!(m.part(*b"HASH"), refused(26, 0));
         assert_eq!(m.runtime().minimum_wave_lanes, Some(0));
         assert_eq!(m.runtime().stage, None);
@@ -80,7 +81,7 @@ fn box_m_is_accepted_as_edition_0() {
         assert_eq!(m.mask(0), refused(26, 0));
         assert_eq!(m.resource(0), refused(26, 0));
         assert_eq!(m.sections(), Sections { runtime: &[0; 24], ..Sections::default() });
-        let alone = Psv0::open(parts[1].data, edition).unwrap();
+        let alone = Psv0::open(psv0.data, edition).unwrap();
         assert_eq!(alone.runtime(), m.runtime());
     }
     assert_eq!(Container::open(&bytes, 4), refused(25, 0));
@@ -173,6 +174,206 @@ fn names_and_refused_assemblies() {
     assert_eq!(assemble(b"AAAA", &[0], &[], &[0; 16], &mut out), Ok(44));
     assert_eq!(table_part(&out[..44], *b"AAAA").unwrap().offset, 36);
     assert_eq!(Refusal { number: 8, place: 3 }.to_string(), "refused 8 3");
+}
+
+const PRIV: [u8; 4] = *b"PRIV";
+
+/// What the table shows of a part that is laid out by hand, and its data.
+struct Laid<'a> {
+    name: &'a [u8; 4],
+    gap: usize,
+    offset: usize,
+    occurrence: usize,
+    data: &'a [u8],
+}
+
+fn laid<'a>(name: &'a [u8; 4], gap: usize, offset: usize, occurrence: usize, data: &'a [u8]) -> Laid<'a> {
+    Laid { name, gap, offset, occurrence, data }
+}
+
+/// Lays out parts by their gaps and data, with bytes after the last one.
+fn lay_out(parts: &[Laid<'_>], after: usize) -> Vec<u8> {
+    let mut bytes = vec![0; 32 + 4 * parts.len()];
+    bytes[..4].copy_from_slice(b"DXBC");
+    bytes[20] = 1;
+    bytes[28] = parts.len() as u8;
+    for (i, part) in parts.iter().enumerate() {
+        bytes.resize(bytes.len() + part.gap, 0xcc);
+        let offset = bytes.len() as u32;
+        put4(&mut bytes, 32 + 4 * i, offset);
+        bytes.extend_from_slice(part.name);
+        bytes.extend_from_slice(&(part.data.len() as u32).to_le_bytes());
+        bytes.extend_from_slice(part.data);
+    }
+    bytes.resize(bytes.len() + after, 0xcc);
+    let len = bytes.len() as u32;
+    put4(&mut bytes, 24, len);
+    bytes
+}
+
+/// The table shows these parts, and every query finds each by its name and occurrence, the first one without, and none past the last; the
+/// sum is the length. The container is asked at every edition where it opens.
+fn shows_parts(bytes: &[u8], parts: &[Laid<'_>], after: usize) {
+    let expected: Vec<Entry<'_>> = parts
+        .iter()
+        .enumerate()
+        .map(|(number, &Laid { name, gap, offset, occurrence, data })| {
+            let part = Part { name: *name, number, offset, data };
+            Entry { part, occurrence, gap }
+        })
+        .collect();
+    let entries = table(bytes).unwrap();
+    assert_eq!(entries, expected);
+    assert!(entries.iter().all(|e| e.part.data.as_ptr() == bytes[e.part.offset + 8..].as_ptr()));
+    let taken: usize = entries.iter().map(|e| e.gap + 8 + e.part.data.len()).sum();
+    assert_eq!(32 + 4 * entries.len() + taken + after, bytes.len());
+
+    let containers: Vec<_> = (0..=3).filter_map(|edition| Container::open(bytes, edition).ok()).collect();
+    for name in parts.iter().map(|part| *part.name).chain([PRIV, *b"HASH", *b"priv"]) {
+        let named: Vec<_> = expected.iter().copied().filter(|e| e.part.name == name).collect();
+        assert!(table_parts(bytes, name).unwrap().eq(named.iter().copied()));
+        let first = named.first().map(|e| e.part).ok_or(Refusal { number: 26, place: 0 });
+        assert_eq!(table_part(bytes, name), first);
+        let past = [named.len(), named.len() + 1, 96, 1 << 32, (1 << 32) + 1, usize::MAX];
+        for (i, entry) in named.iter().enumerate() {
+            assert_eq!(entry.occurrence, i);
+            assert_eq!(table_part_occurrence(bytes, name, i), Ok(entry.part));
+        }
+        for occurrence in past {
+            assert_eq!(table_part_occurrence(bytes, name, occurrence), refused(26, 0));
+        }
+        for container in &containers {
+            assert!(container.parts(name).eq(named.iter().copied()));
+            assert_eq!(container.part(name), first);
+            for (i, entry) in named.iter().enumerate() {
+                assert_eq!(container.part_occurrence(name, i), Ok(entry.part));
+            }
+            for occurrence in past {
+                assert_eq!(container.part_occurrence(name, occurrence), refused(26, 0));
+            }
+        }
+    }
+}
+
+#[test]
+fn several_private_parts_are_shown() {
+    let m = psv0_m(24, 24);
+    // No bytes, one and seven before headers, two after the last part.
+    let two =
+        [laid(b"DXIL", 0, 48, 0, b"code"), laid(&PRIV, 1, 61, 0, b"one"), laid(b"PSV0", 0, 72, 0, &m), laid(&PRIV, 7, 119, 1, b"other")];
+    let bytes = lay_out(&two, 2);
+    assert_eq!(bytes.len(), 134);
+    shows_parts(&bytes, &two, 2);
+    let container = Container::open_default(&bytes).unwrap();
+    assert_eq!(container.part_count(), 4);
+    assert_eq!(container.part(PRIV).unwrap().data, b"one");
+    assert_eq!(container.part_occurrence(PRIV, 1).unwrap().data, b"other");
+    assert_eq!(container.part_occurrence(PRIV, 2), refused(26, 0));
+    assert_eq!(container.part_occurrence(*b"DXIL", 1), refused(26, 0));
+    let shown = raw::table(&bytes);
+    assert_eq!((&shown.occurrences[..4], &shown.gaps[..4]), (&[0, 0, 0, 1][..], &[0, 1, 0, 7][..]));
+    assert!([shown.names, shown.offsets, shown.sizes, shown.occurrences, shown.gaps].iter().all(|numbers| numbers[4..] == [0; 92]));
+    // What is handed out are parts of the bytes, which outlive the container.
+    let notes = Container::open(&bytes, 0).unwrap().parts(PRIV);
+    assert_eq!(notes.map(|entry| (entry.part.number, entry.part.data)).collect::<Vec<_>>(), [(1, &b"one"[..]), (3, b"other")]);
+
+    // The first part is private and empty, and many bytes lie before the last private one.
+    let three = [
+        laid(&PRIV, 4, 60, 0, b""),
+        laid(b"DXIL", 0, 68, 0, b"code"),
+        laid(&PRIV, 0, 80, 1, b"no"),
+        laid(b"PSV0", 1, 91, 0, &m),
+        laid(&PRIV, 300, 431, 2, b"t"),
+        laid(b"VERS", 0, 440, 0, b"verses"),
+    ];
+    let bytes = lay_out(&three, 0);
+    assert_eq!(bytes.len(), 454);
+    assert_eq!(Container::open(&bytes, 3).unwrap().parts(PRIV).count(), 3);
+    shows_parts(&bytes, &three, 0);
+    assert_eq!(raw::part_occurrence(&bytes, 4, &PRIV, 0).verdict, raw::Verdict { number: 25, place: 0 });
+    assert_eq!(raw::part_occurrence(&bytes, 3, &PRIV, 2).size, 1);
+    assert_eq!(raw::table_part_occurrence(&bytes, &PRIV, 1).size, 2);
+
+    // Private parts alone, which don't open, and no part at all.
+    let alone = [laid(&PRIV, 0, 40, 0, b"a"), laid(&PRIV, 0, 49, 1, b"bc")];
+    shows_parts(&lay_out(&alone, 0), &alone, 0);
+    assert_eq!(raw::part_occurrence(&lay_out(&alone, 0), 3, &PRIV, 1).verdict, raw::Verdict { number: 10, place: 0 });
+    for after in [0, 1, 400] {
+        shows_parts(&lay_out(&[], after), &[], after);
+    }
+}
+
+#[test]
+fn any_other_name_stands_once() {
+    for other in [b"DXIL", b"PSV0", b"HASH", b"priv", b"PRIW", b"QRIV", b"PRI\0"] {
+        let mut parts = [&PRIV, other, &PRIV, other, &PRIV].map(|name| laid(name, 2, 0, 0, b"data"));
+        let bytes = lay_out(&parts, 1);
+        assert_eq!(table(&bytes), refused(9, 3));
+        assert!(table_parts(&bytes, PRIV).is_err_and(|refusal| refusal == Refusal { number: 9, place: 3 }));
+        for name in [PRIV, *other] {
+            assert_eq!(table_part(&bytes, name), refused(9, 3));
+            assert_eq!(table_part_occurrence(&bytes, name, 1), refused(9, 3));
+            assert_eq!(raw::part_occurrence(&bytes, 3, &name, 1).verdict, raw::Verdict { number: 9, place: 3 });
+        }
+        assert_eq!(Container::open(&bytes, 3), refused(9, 3));
+        // Beside a refusal nothing is shown.
+        let nothing = [0; 96];
+        let shown = raw::table(&bytes);
+        assert_eq!((shown.count, shown.names, shown.offsets), (0, nothing, nothing));
+        assert_eq!((shown.sizes, shown.occurrences, shown.gaps), (nothing, nothing, nothing));
+
+        let mut out = [0xee; 256];
+        let names = [PRIV, *other, PRIV, *other, PRIV].concat();
+        assert_eq!(assemble(&names, &[1, 0, 2, 3, 1], b"dataabc", &[7; 16], &mut out), refused(9, 3));
+        assert_eq!(out, [0xee; 256]);
+        parts[1].name = &PRIV;
+        let entries: Vec<_> = table(&lay_out(&parts, 1)).unwrap().iter().map(|e| (e.part.name, e.occurrence)).collect();
+        assert_eq!(entries, [(PRIV, 0), (PRIV, 1), (PRIV, 2), (*other, 0), (PRIV, 3)]);
+    }
+}
+
+#[test]
+fn private_parts_are_assembled_and_found_again() {
+    let m = psv0_m(24, 24);
+    // Parts start at multiples of 4.
+    let parts = [
+        laid(&PRIV, 0, 56, 0, b"abc"),
+        laid(b"DXIL", 1, 68, 0, b"code"),
+        laid(&PRIV, 0, 80, 1, b"de"),
+        laid(b"PSV0", 2, 92, 0, &m),
+        laid(&PRIV, 0, 132, 2, b"fghij"),
+        laid(&PRIV, 3, 148, 3, b"k"),
+    ];
+    let sizes = parts.each_ref().map(|part| part.data.len() as u32);
+    let data = parts.each_ref().map(|part| part.data).concat();
+    let mut out = [0xee; 200];
+    assert_eq!(assemble(b"PRIVDXILPRIVPSV0PRIVDXIL", &sizes, &data, &[7; 16], &mut out), refused(9, 5));
+    assert_eq!(assemble(b"PRIVDXILPRIVPSV0PRIVPRIV", &sizes, &data, &[7; 16], &mut out[..156]), refused(28, 0));
+    assert_eq!(out, [0xee; 200]);
+    assert_eq!(assemble(b"PRIVDXILPRIVPSV0PRIVPRIV", &sizes, &data, &[7; 16], &mut out), Ok(157));
+    assert_eq!(out[157..], [0xee; 43]);
+    assert_eq!(Container::open(&out[..157], 3).unwrap().parts(PRIV).count(), 4);
+    shows_parts(&out[..157], &parts, 0);
+}
+
+#[test]
+fn private_parts_up_to_the_greatest_number() {
+    // Of one byte each: three bytes lie before every header but the first. The last entry of every array.
+    let data: Vec<u8> = (0..97).collect();
+    let mut out = [0xee; 2048];
+    assert_eq!(assemble(&PRIV.repeat(97), &[1; 97], &data, &[7; 16], &mut out), refused(6, 0));
+    let len = assemble(&PRIV.repeat(96), &[1; 96], &data[..96], &[7; 16], &mut out).unwrap();
+    let bytes = &out[..len];
+    let parts: Vec<_> = (0..96).map(|i| laid(&PRIV, if i == 0 { 0 } else { 3 }, 416 + 12 * i, i, &data[i..=i])).collect();
+    shows_parts(bytes, &parts, 0);
+    assert_eq!(table_part_occurrence(bytes, PRIV, 95).unwrap().data, [95]);
+    assert_eq!(table_part_occurrence(bytes, PRIV, 96), refused(26, 0));
+    let shown = raw::table(bytes);
+    assert_eq!((shown.names[95].to_le_bytes(), shown.offsets[95], shown.sizes[95]), (PRIV, 416 + 12 * 95, 1));
+    assert_eq!((shown.occurrences[0], shown.occurrences[95], shown.gaps[0], shown.gaps[95]), (0, 95, 0, 3));
+    // Another name twice, far apart.
+    let names = [&b"DXIL"[..], &PRIV.repeat(94), b"DXIL"].concat();
+    assert_eq!(assemble(&names, &[1; 96], &data[..96], &[7; 16], &mut out), refused(9, 95));
 }
 
 #[test]

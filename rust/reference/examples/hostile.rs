@@ -4,12 +4,16 @@
 //! edition 3 refuses and edition 1 passes, three are refused with a number that
 //! was aimed at (1 and 3 to 23 in turn), and one is damaged anyhow. Many strings
 //! have letters of several bytes, and 22 and 24 are given for ill-formed ones, too.
-//! It prints how many there are of each answer.
+//! Many have several PRIV parts, some that give 9 for another name among them. It
+//! prints how many there are of each answer.
 
 #[path = "../tests/common/mod.rs"]
 mod common;
 use common::*;
-use reference::{open, open_psv0, table, Part, KNOWN, LONGEST_READ, MOST_PARTS, NEWEST};
+use reference::{
+    find_occurrence, may_repeat, open, open_psv0, table, Part, KNOWN, LONGEST_READ, MOST_PARTS,
+    NEWEST,
+};
 use std::collections::BTreeMap;
 
 /// Every number that edition 1 gives for at most 65,536 bytes.
@@ -51,6 +55,8 @@ fn main() {
     if count >= 300 {
         assert!(counts.ill_formed.iter().all(|number| *number > 0), "22 and 24 for such strings");
         assert!(20 * counts.longer >= count, "a twentieth with letters of several bytes");
+        assert!(20 * counts.several >= count, "a twentieth with several private parts");
+        assert!(counts.beside > 0, "9 for another name beside several private parts");
     }
 }
 
@@ -73,6 +79,10 @@ struct Counts {
     longer: usize,
     /// Edition 3 gives 22 or 24 for a string that isn't well formed.
     ill_formed: [usize; 2],
+    /// Edition 1 accepts, and there are several private parts.
+    several: usize,
+    /// 9 for another name, and there are several private parts.
+    beside: usize,
 }
 
 impl Counts {
@@ -93,6 +103,7 @@ impl Counts {
         for (count, number) in self.ill_formed.iter_mut().zip([22, 24]) {
             *count += usize::from(newest == Some(number) && is_ill_formed(bytes));
         }
+        self.beside += usize::from(one == Some(9) && private_parts(bytes) > 1);
         if one.is_some() {
             return;
         }
@@ -105,6 +116,7 @@ impl Counts {
         self.unknown += usize::from(any_name(|name| !KNOWN.contains(name)));
         self.odd += usize::from(any_name(|name| !name.iter().all(u8::is_ascii_graphic)));
         self.gaps += usize::from(listed + filled < bytes.len());
+        self.several += usize::from(find_occurrence(&parts, *b"PRIV", 1).is_some());
     }
 
     fn print(&self) {
@@ -128,7 +140,17 @@ impl Counts {
              isn't well formed: {element} with 22, {entry} with 24",
             self.longer
         );
+        println!(
+            "several PRIV parts: edition 1 accepts {}, {} refused with 9 for another name",
+            self.several, self.beside
+        );
     }
+}
+
+/// How many private parts there are in a container that passes 8.
+fn private_parts(bytes: &[u8]) -> usize {
+    let number = |at: usize| u32::from_le_bytes(bytes[at..at + 4].try_into().unwrap()) as usize;
+    (0..number(28)).filter(|i| bytes[number(32 + 4 * i)..].starts_with(b"PRIV")).count()
 }
 
 /// Whether edition 3 shows a string of fewer code points than bytes.
@@ -307,7 +329,9 @@ fn large(random: &mut Random) -> Psv0 {
 }
 
 /// Names that print as others do, or nearly as a known one.
-const NEAR: [[u8; 4]; 12] = [
+const NEAR: [[u8; 4]; 14] = [
+    *b"priv",
+    *b"PRI\0",
     *b"dxil",
     *b"psv0",
     *b"PSV1",
@@ -333,8 +357,29 @@ fn around(random: &mut Random, psv0: Vec<u8>) -> Parts {
         22 => random.below(MOST_PARTS - 1),
         _ => MOST_PARTS - 2,
     };
+    let private = match random.below(40) {
+        0..=29 => 0,
+        30..=38 => 2 + random.below(5),
+        _ => MOST_PARTS - 2,
+    };
+    add_private_parts(random, &mut parts, private);
+    let more = more.min(MOST_PARTS - parts.len());
     add_parts(random, &mut parts, more);
     parts
+}
+
+/// So many private parts more, each at any place.
+fn add_private_parts(random: &mut Random, parts: &mut Parts, more: usize) {
+    for _ in 0..more {
+        add_part(random, parts, *b"PRIV");
+    }
+}
+
+/// A part more at any place.
+fn add_part(random: &mut Random, parts: &mut Parts, name: [u8; 4]) {
+    let length = random.pick(&[0, 0, 1, 3, 4, 8, 21]);
+    let at = random.below(parts.len() + 1);
+    parts.insert(at, (name, random.bytes(length)));
 }
 
 /// So many parts more, each at any place.
@@ -350,10 +395,8 @@ fn add_parts(random: &mut Random, parts: &mut Parts, more: usize) {
                 [any[0], any[1], any[2], any[3]]
             }
         };
-        if parts.iter().all(|part| part.0 != name) {
-            let length = random.pick(&[0, 0, 1, 3, 4, 8, 21]);
-            let at = random.below(parts.len() + 1);
-            parts.insert(at, (name, random.bytes(length)));
+        if may_repeat(name) || parts.iter().all(|part| part.0 != name) {
+            add_part(random, parts, name);
         }
     }
 }
@@ -378,6 +421,9 @@ fn spoil_parts(random: &mut Random, parts: &mut Parts, number: u8) {
             add_parts(random, parts, more);
         }
         9 => {
+            let room = MOST_PARTS.saturating_sub(parts.len() + 1);
+            let private = random.pick(&[0, 0, 2, 3]).min(room);
+            add_private_parts(random, parts, private);
             let (from, to) = (random.below(parts.len()), random.below(parts.len()));
             parts[to].0 = parts[from].0;
             if from == to || random.one_in(3) {

@@ -6,13 +6,14 @@
 //! knows, so that LLVM reads them too; half of the string tables have letters of
 //! several bytes. Of the signature parts some have names (52 among them) or sizes that
 //! LLVM or the reader refuses, and some have a number without a name; so have some of
-//! the root signatures, of both versions and with every kind of item.
+//! the root signatures, of both versions and with every kind of item. Half have PRIV
+//! parts, most of these several, and of these half gaps.
 
 #[path = "../tests/common/mod.rs"]
 mod common;
 use common::*;
-use reference::{signature_report, SignaturePart};
-use std::collections::BTreeMap;
+use reference::{find_occurrence, signature_report, SignaturePart};
+use std::collections::{BTreeMap, BTreeSet};
 
 fn main() {
     let Some((directory, count)) = directory_and_count("samples") else {
@@ -23,18 +24,29 @@ fn main() {
     let mut signatures = Random(0x0f1e_2d3c_4b5a_6978);
     let mut roots = Random(0x7856_3412_f0de_bc9a);
     let mut texts = Random(0x2b84_e1c9_5f30_77d6);
+    let mut private = Random(0x61d0_93a7_c85e_4f2b);
     let mut kinds = BTreeMap::new();
+    let (mut several, mut gaps) = (0, BTreeSet::new());
     for number in 0..count {
-        let bytes = sample(&mut random, &mut signatures, &mut roots, &mut texts);
+        let parts = sample(&mut random, &mut signatures, &mut roots, &mut texts);
+        let bytes = with_private_parts(&mut private, parts);
         count_strings(&bytes, &mut kinds);
+        let parts = reference::table(&bytes).expect("its table is right");
+        several += usize::from(find_occurrence(&parts, *b"PRIV", 1).is_some());
+        gaps.extend(parts.iter().filter(|part| part.occurrence > 0).map(|part| part.gap));
         let path = directory.join(format!("{number:04}.bin"));
         std::fs::write(path, bytes).expect("the file can be written");
     }
     if count >= 300 {
         assert_eq!(kinds.keys().collect::<Vec<_>>(), [&22, &24, &52, &LONGER]);
         assert!(6 * kinds[&LONGER] > count, "a sixth with letters of several bytes: {kinds:?}");
+        assert!(4 * several > count, "a quarter with several private parts: {several}");
+        assert!(gaps.is_superset(&BTreeSet::from([0, 1, 13])), "between them: {gaps:?}");
     }
 }
+
+/// A container's parts, in order.
+type Parts = Vec<([u8; 4], Vec<u8>)>;
 
 /// Stands for an accepted container with a string of fewer code points than bytes.
 const LONGER: u8 = 0xff;
@@ -60,12 +72,29 @@ fn count_strings(bytes: &[u8], kinds: &mut BTreeMap<u8, usize>) {
     }
 }
 
+/// The container of these parts, half of the time with private ones at any place.
+fn with_private_parts(random: &mut Random, mut parts: Parts) -> Vec<u8> {
+    let count = random.pick(&[0, 0, 0, 0, 0, 0, 1, 2, 2, 3, 3, 6]);
+    for _ in 0..count {
+        let length = random.pick(&[0, 1, 3, 4, 4, 8, 20]);
+        let at = random.below(parts.len() + 1);
+        parts.insert(at, (*b"PRIV", random.bytes(length)));
+    }
+    let gaps = count > 0 && random.one_in(2);
+    let parts: Vec<(&[u8; 4], &[u8])> =
+        parts.iter().map(|(name, data)| (name, &data[..])).collect();
+    spread(&parts, || {
+        let length = if gaps { random.pick(&[0, 0, 0, 1, 4, 4, 13, 40]) } else { 0 };
+        random.bytes(length)
+    })
+}
+
 fn sample(
     random: &mut Random,
     signatures: &mut Random,
     roots: &mut Random,
     texts: &mut Random,
-) -> Vec<u8> {
+) -> Parts {
     let stage = random.pick(&[0u8, 1, 2, 3, 4, 5, 13, 14]);
     let size = random.pick(&[24, 28, 36, 40, 48, 52, 52, 56]);
     let mut psv0 = Psv0::of_size(size);
@@ -112,9 +141,7 @@ fn sample(
     if !roots.one_in(4) {
         parts.push((*b"RTS0", root(roots)));
     }
-    let parts: Vec<(&[u8; 4], &[u8])> =
-        parts.iter().map(|(name, data)| (name, &data[..])).collect();
-    container(&parts)
+    parts
 }
 
 /// An element's name or the entry name that isn't well formed, and no other fault.

@@ -1,10 +1,11 @@
 //! A reader and writer of DirectX containers and their PSV0 part, and a reader
 //! of the DXIL part's header, of the signature parts and of the root signature,
-//! written from documents 000, 001 and 01 and requests 1 to 3 and 5 to 7 of 02
+//! written from documents 000, 001 and 01 and requests 1 to 3 and 5 to 8 of 02
 //! alone. It is a second opinion: every rule stands here as directly as it can be
 //! said, so that another reader can be held against it.
 //!
-//! * [`table`] reads the part table (refusals 1 to 9).
+//! * [`table`] reads the part table (refusals 1 to 9), [`table_part`] and
+//!   [`table_part_occurrence`] one part of it (26), [`after_last_part`] what follows.
 //! * [`open`] opens a whole container, [`open_psv0`] PSV0 data alone; both give
 //!   an [`Opening`], whose methods are the queries (refusal 26).
 //! * [`program`] reads the header of DXIL data (refusals 40 to 42), and
@@ -50,7 +51,10 @@ pub use signature::{
     first_difference, signature, signature_element, signature_report, Signature, SignatureElement,
     SignaturePart,
 };
-pub use table::{find, known, table, table_part, Part, KNOWN};
+pub use table::{
+    after_last_part, find, find_occurrence, known, may_repeat, table, table_part,
+    table_part_occurrence, Part, KNOWN,
+};
 pub use utf8::{code_points, Text};
 pub use write::{assemble, plain, write_psv0};
 

@@ -2,8 +2,8 @@
 
 use crate::utf8::{bytes_at, Reference, References};
 use crate::{
-    find, number2, number4, refusal, refusal_at, table, Part, Refusal, Text, DEFAULT_EDITION,
-    EDITION_SIZES, LEAST_RECORD, LONGEST, LONG_RESOURCE, MASKS, NEWEST,
+    find, find_occurrence, number2, number4, refusal, refusal_at, table, Part, Refusal, Text,
+    DEFAULT_EDITION, EDITION_SIZES, LEAST_RECORD, LONGEST, LONG_RESOURCE, MASKS, NEWEST,
 };
 
 const GEOMETRY: u32 = 2;
@@ -451,9 +451,18 @@ fn array_of<'a>(indices: &'a [u8], element: &Element) -> Option<&'a [u8]> {
 
 /// The queries. Those that can miss answer 26.
 impl<'a> Opening<'a> {
-    /// A part of the container: its number and data.
+    /// The first part of that name in the container: its number and data.
     pub fn part(&self, name: [u8; 4]) -> Result<(usize, &'a [u8]), Refusal> {
-        let i = find(&self.parts, name).ok_or(refusal(26))?;
+        self.part_occurrence(name, 0)
+    }
+
+    /// The same of the part of that name and occurrence (request 8).
+    pub fn part_occurrence(
+        &self,
+        name: [u8; 4],
+        occurrence: u64,
+    ) -> Result<(usize, &'a [u8]), Refusal> {
+        let i = find_occurrence(&self.parts, name, occurrence).ok_or(refusal(26))?;
         Ok((i, self.parts[i].data(self.container)))
     }
 

@@ -21,7 +21,8 @@ fn lines(opening: &Opening, text: &mut String) -> std::fmt::Result {
     writeln!(text, "edition {} read {}", opening.file_edition, opening.edition_read)?;
     writeln!(text, "parts {}", opening.parts.len())?;
     for (i, part) in opening.parts.iter().enumerate() {
-        writeln!(text, "part {i} {}", part_line(part))?;
+        let (occurrence, gap) = (part.occurrence, part.gap);
+        writeln!(text, "part {i} {} occurrence {occurrence} gap {gap}", part_line(part))?;
     }
 
     let runtime = &opening.runtime;

@@ -14,26 +14,47 @@ pub fn known(name: [u8; 4]) -> bool {
     KNOWN.contains(&name)
 }
 
+/// Request 8: "PRIV may repeat; every other name still may not". The table reader
+/// and the assembler both come here for 9.
+pub fn may_repeat(name: [u8; 4]) -> bool {
+    name == *b"PRIV"
+}
+
+/// The length of the header; the offset table follows it.
+const HEADER: usize = 32;
+
+/// The length of a part header; the data follow it.
+const PART_HEADER: usize = 8;
+
 /// One part: its name, where its header starts, and how many data bytes follow
-/// the header.
+/// the header; then how many earlier parts bear its name, and how many gap bytes lie
+/// before its header.
 #[derive(Clone, Copy, Debug, PartialEq, Eq)]
 pub struct Part {
     pub name: [u8; 4],
     pub offset: usize,
     pub size: usize,
+    /// 0 for every name that may not repeat. Of the type that a query takes.
+    pub occurrence: u64,
+    /// Counted from the end of the part before it, or of the offset table.
+    pub gap: usize,
 }
 
 impl Part {
+    /// Where the part's data end.
+    pub fn end(&self) -> usize {
+        self.offset + PART_HEADER + self.size
+    }
+
     /// The part's data within the container it was read from.
     pub fn data<'a>(&self, container: &'a [u8]) -> &'a [u8] {
-        let start = self.offset + 8;
-        &container[start..start + self.size]
+        &container[self.offset + PART_HEADER..self.end()]
     }
 }
 
 /// The part table of a container, or its refusal (1 to 9).
 pub fn table(bytes: &[u8]) -> Result<Vec<Part>, Refusal> {
-    if bytes.len() < 32 {
+    if bytes.len() < HEADER {
         return Err(refusal(1));
     }
     if bytes.len() > LONGEST {
@@ -54,7 +75,7 @@ pub fn table(bytes: &[u8]) -> Result<Vec<Part>, Refusal> {
     if count > MOST_PARTS {
         return Err(refusal(6));
     }
-    let table_end = 32 + 4 * count;
+    let table_end = HEADER + 4 * count;
     if table_end > bytes.len() {
         return Err(refusal(7));
     }
@@ -62,13 +83,14 @@ pub fn table(bytes: &[u8]) -> Result<Vec<Part>, Refusal> {
     let mut parts: Vec<Part> = Vec::with_capacity(count);
     let mut earliest = table_end as u64;
     for i in 0..count {
-        let offset = u64::from(number4(bytes, 32 + 4 * i));
-        if offset < earliest || offset + 8 > length {
+        let offset = u64::from(number4(bytes, HEADER + 4 * i));
+        if offset < earliest || offset + PART_HEADER as u64 > length {
             return Err(refusal_at(8, i));
         }
+        let gap = (offset - earliest) as usize;
         let offset = offset as usize;
         let size = u64::from(number4(bytes, offset + 4));
-        let end = offset as u64 + 8 + size;
+        let end = (offset + PART_HEADER) as u64 + size;
         if end > length {
             return Err(refusal_at(8, i));
         }
@@ -76,27 +98,69 @@ pub fn table(bytes: &[u8]) -> Result<Vec<Part>, Refusal> {
             name: [bytes[offset], bytes[offset + 1], bytes[offset + 2], bytes[offset + 3]],
             offset,
             size: size as usize,
+            // Names are for later: 8 is checked for all parts before 9 for any.
+            occurrence: 0,
+            gap,
         });
         earliest = end;
     }
 
     // At most 96 names: comparing each with those before it is cheap.
-    for (i, part) in parts.iter().enumerate() {
-        if find(&parts[..i], part.name).is_some() {
-            return Err(refusal_at(9, i));
-        }
+    for i in 0..count {
+        let earlier = parts[..i].iter().map(|part| part.name);
+        parts[i].occurrence = occurrence(earlier, parts[i].name).ok_or(refusal_at(9, i))?;
     }
     Ok(parts)
 }
 
-/// The number of the first part of that name.
-pub fn find(parts: &[Part], name: [u8; 4]) -> Option<usize> {
-    parts.iter().position(|part| part.name == name)
+/// How many of the earlier names are this one, or None where there is such a name
+/// and it may not repeat. Each earlier name is looked at once.
+pub(crate) fn occurrence(earlier: impl Iterator<Item = [u8; 4]>, name: [u8; 4]) -> Option<u64> {
+    let mut count = 0;
+    for other in earlier {
+        if other == name {
+            if !may_repeat(name) {
+                return None;
+            }
+            count += 1;
+        }
+    }
+    Some(count)
 }
 
-/// A part by its name from the table alone: its number and data (1 to 9, 26).
+/// The number of the first part of that name.
+pub fn find(parts: &[Part], name: [u8; 4]) -> Option<usize> {
+    find_occurrence(parts, name, 0)
+}
+
+/// The number of the part of that name and occurrence.
+pub fn find_occurrence(parts: &[Part], name: [u8; 4], occurrence: u64) -> Option<usize> {
+    parts.iter().position(|part| part.name == name && part.occurrence == occurrence)
+}
+
+/// The first part of that name from the table alone: its number and data (1 to 9,
+/// 26).
 pub fn table_part(bytes: &[u8], name: [u8; 4]) -> Result<(usize, &[u8]), Refusal> {
+    table_part_occurrence(bytes, name, 0)
+}
+
+/// The same of the part of that name and occurrence. Request 8: "A query by name
+/// takes that first number too; without it the first part is meant."
+pub fn table_part_occurrence(
+    bytes: &[u8],
+    name: [u8; 4],
+    occurrence: u64,
+) -> Result<(usize, &[u8]), Refusal> {
     let parts = table(bytes)?;
-    let i = find(&parts, name).ok_or(refusal(26))?;
+    let i = find_occurrence(&parts, name, occurrence).ok_or(refusal(26))?;
     Ok((i, parts[i].data(bytes)))
+}
+
+/// The bytes after the last part; with no part, after the offset table (1 to 9). Of
+/// an accepted table, these, the header, the offset table, the gaps, and the part
+/// headers and data sum to the file's length.
+pub fn after_last_part(bytes: &[u8]) -> Result<&[u8], Refusal> {
+    // An offset table of no part has no bytes.
+    let end = table(bytes)?.last().map_or(HEADER, Part::end);
+    Ok(&bytes[end..])
 }

@@ -1,5 +1,6 @@
 //! The PSV0 writer, the container assembler, and plain form.
 
+use crate::table::occurrence;
 use crate::{
     open_psv0, refusal, refusal_at, Refusal, Runtime, EDITION_SIZES, LEAST_RECORD, LONGEST,
     LONG_RESOURCE, MOST_PARTS, NEWEST,
@@ -111,9 +112,10 @@ pub fn assemble(
     if count > MOST_PARTS {
         return Err(refusal(6));
     }
-    let names: Vec<&[u8]> = names.chunks_exact(4).collect();
+    let names: Vec<[u8; 4]> =
+        names.chunks_exact(4).map(|name| [name[0], name[1], name[2], name[3]]).collect();
     for (i, name) in names.iter().enumerate() {
-        if names[..i].contains(name) {
+        if occurrence(names[..i].iter().copied(), *name).is_none() {
             return Err(refusal_at(9, i));
         }
     }
@@ -144,7 +146,7 @@ pub fn assemble(
         let (part, others) = data.split_at(sizes[i] as usize);
         data = others;
         made.resize(offsets[i] as usize, 0);
-        made.extend_from_slice(names[i]);
+        made.extend_from_slice(&names[i]);
         put_number(&mut made, part.len());
         made.extend_from_slice(part);
     }

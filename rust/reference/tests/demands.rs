@@ -3,7 +3,10 @@
 
 mod common;
 use common::*;
-use reference::{assemble, open, open_psv0, plain, show, table, write_psv0, Refusal};
+use reference::{
+    after_last_part, assemble, open, open_psv0, plain, show, table, table_part_occurrence,
+    write_psv0, Refusal,
+};
 use std::collections::BTreeMap;
 
 /// A container around the data, at times with more parts or fewer.
@@ -19,10 +22,14 @@ fn around(random: &mut Random, psv0: &[u8]) -> Vec<u8> {
     if random.one_in(60) {
         parts.push((b"DXIL", b""));
     }
+    for _ in 0..random.pick(&[0, 0, 0, 1, 2, 3]) {
+        parts.insert(random.below(parts.len() + 1), (b"PRIV", b"note"));
+    }
     if random.one_in(2) {
         parts.reverse();
     }
-    container(&parts)
+    let gaps = random.one_in(3);
+    spread(&parts, || vec![0xee; if gaps { random.pick(&[0, 1, 4, 6]) } else { 0 }])
 }
 
 /// The values of a text of `show` by their names. An unset one is left out, and
@@ -289,11 +296,14 @@ fn what_the_writer_accepts_reads_back() {
 #[test]
 fn assembled_containers_read_back() {
     let mut random = Random(0x0b0b_0c0c_0d0d_0e0e);
-    let mut assembled = 0;
+    let (mut assembled, mut several) = (0, 0);
     for _ in 0..4_000 {
         let count = random.below(9);
         let names: Vec<u8> = (0..count)
-            .flat_map(|_| [b'A', b'B', random.pick(b"abc\0"), random.pick(b"xyzuvw")])
+            .flat_map(|_| match random.below(3) {
+                0 => *b"PRIV",
+                _ => [b'A', b'B', random.pick(b"abc\0"), random.pick(b"xyzuvw")],
+            })
             .collect();
         let sizes: Vec<u32> = (0..count).map(|_| random.below(11) as u32).collect();
         let total: u32 = sizes.iter().sum();
@@ -302,7 +312,7 @@ fn assembled_containers_read_back() {
         let mut out = vec![0x5a; 512];
         let twice = (0..count).find(|i| {
             let name = &names[4 * i..4 * i + 4];
-            (0..*i).any(|j| &names[4 * j..4 * j + 4] == name)
+            name != b"PRIV" && (0..*i).any(|j| &names[4 * j..4 * j + 4] == name)
         });
         let answer = assemble(&names, &sizes, &data, &digest, &mut out);
         if let Some(i) = twice {
@@ -319,19 +329,69 @@ fn assembled_containers_read_back() {
         assert_eq!(parts.len(), count);
         let mut from = 0;
         let mut end = 32 + 4 * count;
+        let mut private = 0;
         for (i, part) in parts.iter().enumerate() {
             assert_eq!(part.name, names[4 * i..4 * i + 4]);
             let to = from + sizes[i] as usize;
             assert_eq!(part.data(bytes), &data[from..to]);
             assert_eq!(part.offset % 4, 0);
             assert!(part.offset - end < 4, "as early as possible");
+            assert_eq!(part.gap, part.offset - end, "filler is a gap");
             assert!(bytes[end..part.offset].iter().all(|byte| *byte == 0));
+            // Each is found again by its number, with its own data.
+            let earlier = if part.name == *b"PRIV" { private } else { 0 };
+            private += u64::from(part.name == *b"PRIV");
+            assert_eq!(part.occurrence, earlier);
+            let found = table_part_occurrence(bytes, part.name, earlier);
+            assert_eq!(found, Ok((i, &data[from..to])));
             from = to;
             end = part.offset + 8 + part.size;
         }
         assert_eq!(end, length);
+        assert_eq!(table_part_occurrence(bytes, *b"PRIV", private), refused(26, 0));
+        several += usize::from(private > 1);
     }
     assert!(assembled > 1_000, "{assembled} assembled");
+    assert!(several > 500, "{several} with several private parts");
+}
+
+#[test]
+fn every_byte_is_counted_once() {
+    let mut random = Random(0x0808_5e7e_a1c0_4a7d);
+    let (mut accepted, mut several, mut gaps) = (0, 0, 0);
+    for _ in 0..40_000 {
+        let psv0 = made(&mut random).bytes();
+        let mut bytes = around(&mut random, &psv0);
+        damage(&mut random, &mut bytes);
+        let Ok(parts) = table(&bytes) else {
+            continue;
+        };
+        accepted += 1;
+        // What the layout has at each place, and each byte marked by what has it.
+        let number = |at: usize| u32::from_le_bytes(bytes[at..at + 4].try_into().unwrap()) as usize;
+        let mut owners = vec![0; bytes.len()];
+        owners[..32 + 4 * parts.len()].fill(1);
+        let mut private = 0;
+        for (i, part) in parts.iter().enumerate() {
+            let at = number(32 + 4 * i);
+            assert_eq!((part.offset, part.size), (at, number(at + 4)));
+            assert_eq!(part.name, bytes[at..at + 4]);
+            assert_eq!(part.occurrence, if part.name == *b"PRIV" { private } else { 0 });
+            private += u64::from(part.name == *b"PRIV");
+            for owner in &mut owners[at - part.gap..at + 8 + part.size] {
+                assert_eq!(std::mem::replace(owner, 1), 0, "no byte is counted twice");
+            }
+            gaps += usize::from(part.gap > 0);
+        }
+        let rest = after_last_part(&bytes).unwrap().len();
+        let taken = bytes.len() - rest;
+        assert!(owners[..taken].iter().all(|owner| *owner == 1), "no byte is left out");
+        assert!(owners[taken..].iter().all(|owner| *owner == 0));
+        several += usize::from(private > 1);
+    }
+    assert!(accepted > 20_000, "{accepted} accepted");
+    assert!(several > 5_000, "{several} with several private parts");
+    assert!(gaps > 20_000, "{gaps} gaps");
 }
 
 /// `records` with the same number of bytes added at the end of each.
@@ -354,7 +414,13 @@ fn widenings_show_the_same() {
         if psv0.runtime.len() < [24, 36, 48, 52][edition] {
             continue;
         }
-        let narrow = container(&[(b"DXIL", b"code"), (b"PSV0", &psv0.bytes())]);
+        // Its own parts stay, the private ones too; gaps may change.
+        let around = |random: &mut Random, data: &[u8]| {
+            let parts: [(&[u8; 4], &[u8]); 4] =
+                [(b"PRIV", b"one"), (b"DXIL", b"code"), (b"PSV0", data), (b"PRIV", b"two")];
+            spread(&parts, || vec![0xee; random.pick(&[0, 0, 1, 8])])
+        };
+        let narrow = around(&mut random, &psv0.bytes());
         if open(&narrow, edition).is_err() {
             continue;
         }
@@ -380,7 +446,7 @@ fn widenings_show_the_same() {
         data.truncate(end);
         let length = random.below(20);
         data.extend(random.bytes(length));
-        let wide = container(&[(b"DXIL", b"code"), (b"PSV0", &data)]);
+        let wide = around(&mut random, &data);
         let mut before = values(&show(&narrow, edition));
         let mut after = values(&show(&wide, edition));
         assert_ne!(after.len(), 0);

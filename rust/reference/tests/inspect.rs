@@ -72,8 +72,48 @@ fn refusals_of_the_table() {
     assert_eq!(with(56, 33), "refused 8 1\n");
     let twice = container(&[(b"AAAA", b""), (b"DXIL", b"x"), (b"BBBB", b""), (b"AAAA", b"")]);
     assert_eq!(printed(&twice), "refused 9 3\n");
+    let twice = container(&[(b"PRIV", b"one"), (b"AAAA", b""), (b"PRIV", b"two"), (b"AAAA", b"")]);
+    assert_eq!(printed(&twice), "refused 9 3\n");
     let twice = container(&[(b"PRIV", b"one"), (b"PRIV", b"two")]);
-    assert_eq!(printed(&twice), "refused 9 1\n");
+    assert_eq!(printed(&twice), "refused 10 0\n", "a second PRIV is no fault");
+}
+
+#[test]
+fn several_private_parts() {
+    // Neither how many stood earlier nor the gaps are printed.
+    let psv0 = common::box_m().bytes();
+    let bytes = gapped(
+        &[
+            (1, b"PRIV", b"one"),
+            (0, b"PSV0", &psv0),
+            (7, b"PRIV", b""),
+            (0, b"DXIL", b"code"),
+            (0, b"PRIV", b"three"),
+        ],
+        9,
+    );
+    let expected = "accepted 0 5
+PRIV 53 3 known
+PSV0 64 32 known
+PRIV 111 0 known
+DXIL 119 4 known
+PRIV 131 5 known
+";
+    assert_eq!(printed(&bytes), expected);
+    // As many as there may be, and one more.
+    for count in [96, 97] {
+        let mut parts: Vec<(&[u8; 4], &[u8])> = vec![(b"PRIV", b"abc"); count - 2];
+        parts.extend([(b"DXIL", &b"code"[..]), (b"PSV0", &psv0)]);
+        let text = printed(&container(&parts));
+        if count == 97 {
+            assert_eq!(text, "refused 6 0\n");
+            continue;
+        }
+        let lines: Vec<&str> = text.lines().collect();
+        assert_eq!(lines.len(), 97);
+        assert_eq!(lines[..2], ["accepted 0 96", "PRIV 416 3 known"]);
+        assert_eq!(lines[94..], ["PRIV 1439 3 known", "DXIL 1450 4 known", "PSV0 1462 32 known"]);
+    }
 }
 
 #[test]
@@ -199,9 +239,14 @@ fn most_parts_and_gaps() {
 #[test]
 fn as_the_other_program_at_edition_one() {
     let mut random = Random(0x0123_4567_89ab_cdef);
-    let (mut accepted, mut refused) = (0, 0);
+    let (mut accepted, mut refused, mut several) = (0, 0, 0);
     for _ in 0..20_000 {
-        let mut bytes = shader(&made(&mut random).bytes());
+        let psv0 = made(&mut random).bytes();
+        let mut parts: Vec<(&[u8; 4], &[u8])> = vec![(b"DXIL", b"code"), (b"PSV0", &psv0)];
+        for _ in 0..random.pick(&[0, 0, 1, 2, 3]) {
+            parts.insert(random.below(parts.len() + 1), (b"PRIV", b"note"));
+        }
+        let mut bytes = spread(&parts, || vec![0xee; random.pick(&[0, 0, 1, 6])]);
         damage(&mut random, &mut bytes);
         let text = show(&bytes, 1);
         if text.starts_with("refused ") {
@@ -210,17 +255,20 @@ fn as_the_other_program_at_edition_one() {
             continue;
         }
         accepted += 1;
+        several += usize::from(text.contains(" PRIV ") && text.contains(" occurrence 1 gap "));
         let lines: Vec<&str> = text.lines().collect();
         let edition = lines[0].split(' ').nth(1).unwrap();
         let count = lines[1].strip_prefix("parts ").unwrap();
         let mut expected = format!("accepted {edition} {count}\n");
         for line in lines.iter().filter(|line| line.starts_with("part ")) {
-            expected.push_str(line.splitn(3, ' ').nth(2).unwrap());
+            let entry = line.splitn(3, ' ').nth(2).unwrap();
+            expected.push_str(entry.split_once(" occurrence ").unwrap().0);
             expected.push('\n');
         }
         assert_eq!(printed(&bytes), expected);
     }
     assert!(accepted > 5_000 && refused > 2_000, "{accepted} accepted, {refused} refused");
+    assert!(several > 2_000, "{several} with several private parts");
 }
 
 /// The box M followed by other bytes up to the length.

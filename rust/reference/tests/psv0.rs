@@ -3,8 +3,8 @@
 mod common;
 use common::*;
 use reference::{
-    open, open_default, open_psv0, open_psv0_default, plain, Element, Opening, Part, Resource,
-    Runtime, LONGEST,
+    open, open_default, open_psv0, open_psv0_default, plain, Element, Opening, Resource, Runtime,
+    LONGEST,
 };
 use std::path::Path;
 
@@ -35,9 +35,7 @@ fn box_m_is_accepted() {
     for edition in 0..=3 {
         let opening = open(&bytes, edition).unwrap();
         assert_eq!((opening.file_edition, opening.edition_read), (0, 0));
-        assert_eq!(opening.parts[0], Part { name: *b"DXIL", offset: 40, size: 4 });
-        assert_eq!(opening.parts[1], Part { name: *b"PSV0", offset: 52, size: 32 });
-        assert_eq!(opening.parts.len(), 2);
+        assert_eq!(opening.parts, [part(b"DXIL", 40, 4, 0, 0), part(b"PSV0", 52, 32, 0, 0)]);
     }
 }
 
@@ -981,6 +979,47 @@ fn parts_of_an_opening() {
     let opening = open_psv0(&data, 2).unwrap();
     assert!(opening.parts.is_empty());
     assert_eq!(opening.part(*b"PSV0"), refused(26, 0));
+    assert_eq!(opening.part_occurrence(*b"PSV0", 0), refused(26, 0));
+    assert_eq!(opening.part_occurrence(*b"PRIV", u64::MAX), refused(26, 0));
+}
+
+#[test]
+fn several_private_parts_of_an_opening() {
+    let data = hull().bytes();
+    let bytes = container(&[
+        (b"PRIV", b"first"),
+        (b"PSV0", &data),
+        (b"priv", b"other"),
+        (b"PRIV", b""),
+        (b"DXIL", b"code"),
+        (b"PRIV", b"third"),
+    ]);
+    for edition in 0..=3 {
+        let opening = open(&bytes, edition).unwrap();
+        assert_eq!(opening.part(*b"PRIV"), Ok((0, &b"first"[..])), "the first is meant");
+        assert_eq!(opening.part_occurrence(*b"PRIV", 0), Ok((0, &b"first"[..])));
+        assert_eq!(opening.part_occurrence(*b"PRIV", 1), Ok((3, &b""[..])));
+        assert_eq!(opening.part_occurrence(*b"PRIV", 2), Ok((5, &b"third"[..])));
+        assert_eq!(opening.part_occurrence(*b"PSV0", 0), Ok((1, &data[..])));
+        assert_eq!(opening.part_occurrence(*b"priv", 0), Ok((2, &b"other"[..])));
+        // Past the last, and such as would be right at 8 or 32 bits.
+        for occurrence in [3, 4, 256, 1 << 32, (1 << 32) + 2, 1 << 63, u64::MAX] {
+            assert_eq!(opening.part_occurrence(*b"PRIV", occurrence), refused(26, 0));
+        }
+        for name in [*b"DXIL", *b"PSV0", *b"priv", *b"HASH"] {
+            for occurrence in [1, 2, 1 << 32, u64::MAX] {
+                assert_eq!(opening.part_occurrence(name, occurrence), refused(26, 0));
+            }
+        }
+    }
+    // A name that stood earlier is still nothing to open beside them.
+    let twice = container(&[(b"PRIV", b""), (b"PSV0", &data), (b"PRIV", b""), (b"PSV0", &data)]);
+    assert_eq!(answer(open(&twice, 3)), refused(9, 3));
+    // 10 and 11 come next.
+    let private = container(&[(b"PRIV", b"x"), (b"PRIV", b"y")]);
+    assert_eq!(answer(open(&private, 3)), refused(10, 0));
+    let code = container(&[(b"PRIV", b"x"), (b"DXIL", b"code"), (b"PRIV", b"y")]);
+    assert_eq!(answer(open(&code, 3)), refused(11, 0));
 }
 
 #[test]

@@ -31,8 +31,8 @@ fn edition_zero() {
     let expected = format!(
         "edition 0 read 0
 parts 2
-part 0 DXIL 40 4 known
-part 1 PSV0 52 32 known
+part 0 DXIL 40 4 known occurrence 0 gap 0
+part 1 PSV0 52 32 known occurrence 0 gap 0
 stage_info 00000000000000000000000000000000
 minimum_wave_lanes 0
 maximum_wave_lanes 0
@@ -106,12 +106,12 @@ fn everything() {
     let expected = format!(
         "edition 3 read 3
 parts 6
-part 0 ??!~ 56 0 unknown
-part 1 DXIL 64 27 known
-part 2 PSV0 99 {psv0} known
-part 3 OSG1 {} 7 known
-part 4 PSG1 {} 76 known
-part 5 ISG1 {} 108 known
+part 0 ??!~ 56 0 unknown occurrence 0 gap 0
+part 1 DXIL 64 27 known occurrence 0 gap 0
+part 2 PSV0 99 {psv0} known occurrence 0 gap 0
+part 3 OSG1 {} 7 known occurrence 0 gap 0
+part 4 PSG1 {} 76 known occurrence 0 gap 0
+part 5 ISG1 {} 108 known occurrence 0 gap 0
 stage_info a0a1a2a3a4a5a6a7a8a9aaabacadaeaf
 minimum_wave_lanes 4
 maximum_wave_lanes 4294967295
@@ -198,6 +198,39 @@ root_signature refused 26 0
     let shown = show(&bytes, 0);
     assert!(shown.contains("\nsignature ISG1 first_difference 0\nsignature OSG1 refused 43 0\n"));
     assert!(shown.ends_with("\nsignature PSG1 first_difference 0\nroot_signature refused 26 0\n"));
+}
+
+#[test]
+fn private_parts_and_gaps() {
+    let psv0 = box_m().bytes();
+    let bytes = gapped(
+        &[
+            (2, b"PRIV", b"notes"),
+            (0, b"DXIL", b"code"),
+            (1, b"PRIV", b""),
+            (0, b"priv", b""),
+            (13, b"PSV0", &psv0),
+            (0, b"PRIV", b"xy"),
+        ],
+        5,
+    );
+    let lines = "edition 0 read 0
+parts 6
+part 0 PRIV 58 5 known occurrence 0 gap 2
+part 1 DXIL 71 4 known occurrence 0 gap 0
+part 2 PRIV 84 0 known occurrence 1 gap 1
+part 3 priv 92 0 unknown occurrence 0 gap 0
+part 4 PSV0 113 32 known occurrence 0 gap 13
+part 5 PRIV 153 2 known occurrence 2 gap 0
+";
+    // What follows is as without the other parts.
+    let without = show(&shader(&psv0), 3);
+    let rest = &without[without.find("stage_info ").unwrap()..];
+    for edition in 0..=3 {
+        assert_eq!(show(&bytes, edition), format!("{lines}{rest}"));
+    }
+    let twice = container(&[(b"PRIV", b""), (b"DXIL", b"x"), (b"PRIV", b""), (b"DXIL", b"x")]);
+    assert_eq!(show(&twice, 3), "refused 9 3\n");
 }
 
 /// What follows the line of mask 10, up to the signature parts.

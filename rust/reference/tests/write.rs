@@ -3,7 +3,10 @@
 
 mod common;
 use common::*;
-use reference::{assemble, open, open_psv0, plain, table, write_psv0, Refusal, LONGEST};
+use reference::{
+    after_last_part, assemble, open, open_psv0, plain, table, table_part, table_part_occurrence,
+    write_psv0, Refusal, LONGEST,
+};
 
 /// The writer's arguments.
 #[derive(Clone)]
@@ -423,6 +426,55 @@ fn containers_without_parts_and_with_most() {
 }
 
 #[test]
+fn private_parts_by_hand() {
+    let bytes = assembled(b"PRIVDXILPRIVPRIV", &[1, 0, 2, 0], b"xyz");
+    let mut expected = b"DXBC".to_vec();
+    expected.extend(1..17);
+    expected.extend([1, 0, 0, 0]);
+    // Three bytes of filler after the first part, two after the third.
+    expected.extend(words(&[88, 4, 48, 60, 68, 80]));
+    expected.extend(b"PRIV\x01\0\0\0x\0\0\0");
+    expected.extend(b"DXIL\0\0\0\0");
+    expected.extend(b"PRIV\x02\0\0\0yz\0\0");
+    expected.extend(b"PRIV\0\0\0\0");
+    assert_eq!(bytes, expected);
+    let entries = [
+        part(b"PRIV", 48, 1, 0, 0),
+        part(b"DXIL", 60, 0, 0, 3),
+        part(b"PRIV", 68, 2, 1, 0),
+        part(b"PRIV", 80, 0, 2, 2),
+    ];
+    assert_eq!(table(&bytes).unwrap(), entries);
+    assert_eq!(after_last_part(&bytes), Ok(&[][..]), "the file ends with the last part");
+    // Each is found again by its number.
+    assert_eq!(table_part(&bytes, *b"PRIV"), Ok((0, &b"x"[..])));
+    for (occurrence, found) in [(0, (0, &b"x"[..])), (1, (2, b"yz")), (2, (3, b""))] {
+        assert_eq!(table_part_occurrence(&bytes, *b"PRIV", occurrence), Ok(found));
+    }
+    assert_eq!(table_part_occurrence(&bytes, *b"PRIV", 3), refused(26, 0));
+}
+
+#[test]
+fn most_private_parts_assembled() {
+    // Part i has i bytes that say so.
+    let sizes: Vec<u32> = (0..96).collect();
+    let data: Vec<u8> = (0..96).flat_map(|i| vec![i; usize::from(i)]).collect();
+    let mut out = vec![0x5a; 8192];
+    let length = assemble(&b"PRIV".repeat(96), &sizes, &data, &[7; 16], &mut out).unwrap();
+    let bytes = &out[..length];
+    for i in 0..96u8 {
+        let found = table_part_occurrence(bytes, *b"PRIV", u64::from(i));
+        assert_eq!(found, Ok((usize::from(i), &vec![i; usize::from(i)][..])));
+    }
+    assert_eq!(table_part_occurrence(bytes, *b"PRIV", 96), refused(26, 0));
+    // Filler is gaps: of four parts in a row 0, 3, 2 and 1 bytes follow, and none the last.
+    let gaps: Vec<usize> = table(bytes).unwrap().iter().map(|part| part.gap).collect();
+    assert_eq!(gaps[..6], [0, 0, 3, 2, 1, 0]);
+    assert_eq!(gaps.iter().sum::<usize>(), 24 * (3 + 2 + 1) - 1);
+    assert_eq!(length, 32 + 4 * 96 + 143 + 8 * 96 + 4560);
+}
+
+#[test]
 fn boxes_assembled() {
     let psv0 = box_m().bytes();
     let data = [b"code".to_vec(), psv0].concat();
@@ -462,6 +514,35 @@ fn order_of_the_assemblers_refusals() {
     let sizes = [LONGEST as u32, 0];
     not_assembled(b"AAAAAAAA", &sizes, &long, &digest, 9, 1);
     not_assembled(b"AAAABBBB", &sizes, &long, &digest, 2, 0);
+    // Private parts pass 9, and nothing else of the order.
+    let private = b"PRIV".repeat(97);
+    not_assembled(&private, &[1; 97], &[0; 96], &digest, 27, 0);
+    not_assembled(&private, &[1; 97], &[0; 97], &digest, 6, 0);
+    not_assembled(&private[..8], &sizes, &long, &digest, 2, 0);
+    assert_eq!(assemble(&private[..8], &[0; 2], b"", &digest, &mut [0; 55]), refused(28, 0));
+    assert_eq!(assemble(&private[..8], &[0; 2], b"", &digest, &mut [0; 56]), Ok(56));
+}
+
+#[test]
+fn names_that_the_assembler_refuses() {
+    let digest = [0; 16];
+    let cases: [(&[u8], usize); 8] = [
+        (b"DXILDXIL", 1),
+        (b"PRIVPRIVDXILDXIL", 3),
+        (b"DXILPRIVPRIVPRIVDXIL", 4),
+        (b"PRIVDXILPRIVPSV0PSV0DXIL", 4),
+        (b"privpriv", 1),
+        (b"PRI\0PRIVPRI\0PRIV", 2),
+        (b"PRIVprivPRIVpriv", 3),
+        (b"VIRPPRIVPRIVVIRP", 3),
+    ];
+    for (names, place) in cases {
+        let sizes = vec![1; names.len() / 4];
+        let data = vec![b'x'; names.len() / 4];
+        not_assembled(names, &sizes, &data, &digest, 9, place);
+        // Without the part there and those after it nothing stood earlier.
+        assembled(&names[..4 * place], &sizes[..place], &data[..place]);
+    }
 }
 
 #[test]

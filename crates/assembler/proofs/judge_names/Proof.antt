@@ -8,6 +8,7 @@ use Rattle.wire.specs.Verdict.{each}
 use Rattle.wire.specs.declared.Verdict.the-variants.{Accepted}
 use Rattle.part_table_layout.specs.Table.{nameJudged, filled}
 use borrow.Author.Needs.{needs}
+use borrow.Author.Tests.{not-true, not-false}
 use Rattle.assembler.proofs.judge_names.Statement.{statement}
 use Rattle.assembler.proofs.judge_names.Tie as tie
 
@@ -22,20 +23,20 @@ loop-holds c = (search needs, (refl, each-none _))
 
 returns : tie.Need-returns Inv-loop μ-loop
 returns c =
-    let r = c .before .before in
+    let r = c .before in
     let l = r .before .before .before .before .loop in
-    name-stood _ (r .before .before .before .before .before .before .pre) (r .before .before .before .loop-test .taken) (r .before .before .u32-at .ensures) (l .inv .1 .0) (r .find-name .ensures) (l .inv .1 .1) (c .enum-told .given .1)
+    name-stood _ (r .before .before .before .before .before .before .pre) (r .before .before .before .loop-test .taken) (r .before .before .u32-at .ensures) (l .inv .1 .0) (r .may-stand .ensures) (l .inv .1 .1) (not-true _ (c .if1 .taken))
 
 loop-again : tie.Need-loop-again Inv-loop μ-loop
 loop-again c =
-    let r = c .before .before in
+    let r = c .before in
     let l = r .before .before .before .before .loop in
     let few = r .before .before .before .before .before .before .pre in
     let less = r .before .before .before .loop-test .taken in (
       omega arith,
       (
-        name-seen _ few less (r .before .before .u32-at .ensures) (l .inv .1 .0) (r .find-name .ensures) (l .inv .1 .1),
-        name-fresh _ few less (r .before .before .u32-at .ensures) (l .inv .1 .0) (r .find-name .ensures) (l .inv .1 .1) (c .enum-told2 .given .1),
+        name-seen _ few less (r .before .before .u32-at .ensures) (l .inv .1 .0) (r .may-stand .ensures) (l .inv .1 .1),
+        name-fresh _ few less (r .before .before .u32-at .ensures) (l .inv .1 .0) (r .may-stand .ensures) (l .inv .1 .1) (not-false _ (c .if1 .left)),
       ),
     )
 
@@ -53,9 +54,7 @@ judge-names-spec =
     (λ c. search needs)
     (λ c κs. search needs)
     (λ c κs. search needs)
-    (λ c. search needs)
     returns
-    (λ c. search needs)
     (λ c. search needs)
     (λ c. search needs)
     (λ c. search needs)

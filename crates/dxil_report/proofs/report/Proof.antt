@@ -7,13 +7,13 @@ use Rattle.dxil_report.proofs.report.Statement.{statement}
 use Rattle.dxil_report.proofs.report.Tie as tie
 
 add-start : tie.Need-add-start
-add-start c = omega (arith, part-short _ _ _ (c .before .before .part .ensures) (c .enum-told .given .1))
+add-start c = omega (arith, part-short _ _ _ _ (c .before .before .part .ensures) (c .enum-told .given .1))
 
 add-end : tie.Need-add-end
-add-end c = omega (arith, part-short _ _ _ (c .before .before .part .ensures) (c .enum-told .given .1))
+add-end c = omega (arith, part-short _ _ _ _ (c .before .before .part .ensures) (c .enum-told .given .1))
 
 part-read-end : tie.Need-part-read-end
-part-read-end c = omega (arith, part-fits _ _ _ (c .before .before .part .ensures) (c .enum-told .given .1))
+part-read-end c = omega (arith, part-fits _ _ _ _ (c .before .before .part .ensures) (c .enum-told .given .1))
 
 add-t23 : tie.Need-add-t23
 add-t23 c = omega (arith, bitcode-short _ _ (c .before .before .before .before .before .before .before .before .before .before .before .part .ensures) (c .before .before .before .before .before .before .before .before .before .enum-told .given .1) (c .before .before .before .before .before .before .before .read .ensures) (c .before .before .before .before .before .enum-told2 .given .1))

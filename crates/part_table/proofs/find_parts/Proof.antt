@@ -2,8 +2,9 @@ use Prim.Native.Nat.{_-_}
 use mathlib.Core.Path.{_≡_, refl, _∙_}
 use borrow.Author.Needs.{needs}
 use Rattle.part_table_layout.specs.Table.{nameAt, filled}
-use Rattle.part_table_layout.proofs.Judged.{name-is, Walked, walk-begin, walk-on, walk-stops}
-use Rattle.part_table_layout.proofs.Threes.{name-more, all-names, eight-refused, nine-is, none-shown, all-shown}
+use Rattle.part_table_layout.proofs.Filled.{filled-all}
+use Rattle.part_table_layout.proofs.Judged.{name-is, Walked, walk-begin, walk-on, walk-stops, eight-refused, nine-is}
+use Rattle.part_table_layout.proofs.Threes.{name-more, none-shown, all-shown}
 use Rattle.part_table.proofs.find_parts.Statement.{statement}
 use Rattle.part_table.proofs.find_parts.Tie as tie
 
@@ -50,7 +51,7 @@ all-listed-requires c κs =
     let after = c .before .before .before .before .before in
     let inv = after .before .loop .inv in
     let pre = after .before .before .before .pre in
-    (pre .0, pre .1, all-names _ (inv .0 .within) (after .loop-test .left) (inv .1))
+    (pre .0, pre .1, filled-all _ (inv .0 .within) (after .loop-test .left) (inv .1))
 
 returns-3 : tie.Need-returns-3 Inv-loop μ-loop
 returns-3 c =

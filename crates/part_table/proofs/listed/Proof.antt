@@ -8,21 +8,21 @@ use Rattle.part_table.proofs.listed.Tie as tie
 
 mul-u32-at : tie.Need-mul-u32-at
 mul-u32-at c =
-    omega (arith, below-96 _ _ _ _ (sym (c .before .before .before .find-name .ensures) ∙ c .before .f .given .1))
+    omega (arith, below-96 _ _ _ _ _ (sym (c .before .before .before .find-occurrence .ensures) ∙ c .before .f .given .1))
 
 add-u32-at : tie.Need-add-u32-at
 add-u32-at c =
-    omega (arith, below-96 _ _ _ _ (sym (c .before .before .before .find-name .ensures) ∙ c .before .f .given .1))
+    omega (arith, below-96 _ _ _ _ _ (sym (c .before .before .before .find-occurrence .ensures) ∙ c .before .f .given .1))
 
 returns : tie.Need-returns
 returns c =
     let pre = c .before .before .before .before .before .pre in
-    c .no-part .ensures ∙ listed-nowhere _ _ _ (pre .0) (pre .1) (pre .2) (c .before .before .before .find-name .ensures) (c .before .enum-told .given .1)
+    c .no-part .ensures ∙ listed-nowhere _ _ _ _ _ (pre .0) (pre .1) (c .before .before .before .find-occurrence .ensures) (c .before .enum-told .given .1)
 
 returns-2 : tie.Need-returns-2
 returns-2 c =
     let pre = c .before .before .before .before .before .before .before .pre in
-    listed-there _ _ _ (pre .0) (pre .1) (pre .2) (c .before .before .before .before .before .find-name .ensures) (c .before .before .before .f .given .1) (c .before .u32-at .ensures) (c .u32-at2 .ensures)
+    listed-there _ _ _ _ _ (pre .0) (pre .1) (c .before .before .before .before .before .find-occurrence .ensures) (c .before .before .before .f .given .1) (c .before .u32-at .ensures) (c .u32-at2 .ensures)
 
 pub listed-spec : {M : Type 1} → statement M
 listed-spec =

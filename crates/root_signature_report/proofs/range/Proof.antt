@@ -10,13 +10,13 @@ returns : tie.Need-returns
 returns c = c .refused-range .ensures ∙ part-no-range _ _ (c .before .before .before .before .part .ensures) (c .before .before .v .given .1) _ _
 
 add-start : tie.Need-add-start
-add-start c = omega (arith, part-short _ _ _ (c .before .before .part .ensures) (c .enum-told .given .1))
+add-start c = omega (arith, part-short _ _ _ _ (c .before .before .part .ensures) (c .enum-told .given .1))
 
 add-end : tie.Need-add-end
-add-end c = omega (arith, part-short _ _ _ (c .before .before .part .ensures) (c .enum-told .given .1))
+add-end c = omega (arith, part-short _ _ _ _ (c .before .before .part .ensures) (c .enum-told .given .1))
 
 part-range-end : tie.Need-part-range-end
-part-range-end c = omega (arith, part-fits _ _ _ (c .before .before .part .ensures) (c .enum-told .given .1))
+part-range-end c = omega (arith, part-fits _ _ _ _ (c .before .before .part .ensures) (c .enum-told .given .1))
 
 returns-2 : tie.Need-returns-2
 returns-2 c =

@@ -7,13 +7,13 @@ use Rattle.signature_report.proofs.element.Statement.{statement}
 use Rattle.signature_report.proofs.element.Tie as tie
 
 add-start : tie.Need-add-start
-add-start c = omega (arith, part-short _ _ _ (c .before .before .part-of .ensures) (c .enum-told .given .1))
+add-start c = omega (arith, part-short _ _ _ _ (c .before .before .part-of .ensures) (c .enum-told .given .1))
 
 add-end : tie.Need-add-end
-add-end c = omega (arith, part-short _ _ _ (c .before .before .part-of .ensures) (c .enum-told .given .1))
+add-end c = omega (arith, part-short _ _ _ _ (c .before .before .part-of .ensures) (c .enum-told .given .1))
 
 part-element-end : tie.Need-part-element-end
-part-element-end c = omega (arith, part-fits _ _ _ (c .before .before .part-of .ensures) (c .enum-told .given .1))
+part-element-end c = omega (arith, part-fits _ _ _ _ (c .before .before .part-of .ensures) (c .enum-told .given .1))
 
 moved-by-requires : tie.Need-moved-by-requires
 moved-by-requires c κs =

@@ -7,13 +7,13 @@ use Rattle.signature_report.proofs.report.Statement.{statement}
 use Rattle.signature_report.proofs.report.Tie as tie
 
 add-start : tie.Need-add-start
-add-start c = omega (arith, part-short _ _ _ (c .before .before .part-of .ensures) (c .enum-told .given .1))
+add-start c = omega (arith, part-short _ _ _ _ (c .before .before .part-of .ensures) (c .enum-told .given .1))
 
 add-end : tie.Need-add-end
-add-end c = omega (arith, part-short _ _ _ (c .before .before .part-of .ensures) (c .enum-told .given .1))
+add-end c = omega (arith, part-short _ _ _ _ (c .before .before .part-of .ensures) (c .enum-told .given .1))
 
 part-read-end : tie.Need-part-read-end
-part-read-end c = omega (arith, part-fits _ _ _ (c .before .before .part-of .ensures) (c .enum-told .given .1))
+part-read-end c = omega (arith, part-fits _ _ _ _ (c .before .before .part-of .ensures) (c .enum-told .given .1))
 
 returns : tie.Need-returns
 returns c = c .no-report .ensures ∙ part-refused _ _ _ (c .before .before .before .before .part-of .ensures) (c .before .before .v .given .1)

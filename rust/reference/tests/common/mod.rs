@@ -2,7 +2,7 @@
 //! generator of repeatable numbers.
 #![allow(dead_code)]
 
-use reference::{Refusal, Text};
+use reference::{Part, Refusal, Text};
 use std::ops::RangeInclusive;
 use std::path::PathBuf;
 
@@ -58,6 +58,19 @@ pub fn spread(parts: &[(&[u8; 4], &[u8])], mut gap: impl FnMut() -> Vec<u8>) -> 
     bytes.extend_from_slice(&words(&offsets));
     bytes.extend_from_slice(&body);
     bytes
+}
+
+/// The same with so many gap bytes before each part, and so many after the last.
+pub fn gapped(parts: &[(usize, &[u8; 4], &[u8])], after: usize) -> Vec<u8> {
+    let listed: Vec<(&[u8; 4], &[u8])> =
+        parts.iter().map(|(_, name, data)| (*name, *data)).collect();
+    let mut gaps = parts.iter().map(|(gap, _, _)| *gap).chain([after]);
+    spread(&listed, || vec![0xee; gaps.next().expect("one for each part, and one")])
+}
+
+/// An entry of the part table.
+pub fn part(name: &[u8; 4], offset: usize, size: usize, occurrence: u64, gap: usize) -> Part {
+    Part { name: *name, offset, size, occurrence, gap }
 }
 
 /// A DXIL part of four bytes and the PSV0 data.
