@@ -550,7 +550,7 @@ qollqamir_written qollqamir_write_psv0(size_t edition, const uint8_t *runtime, s
                                        size_t masks_len, uint8_t *out, size_t out_len);
 
 /* Assembles a container: 27, 6, 9, 2, 28. names has four bytes a part, sizes one number a part, data the parts' data end to end, digest
-   16 bytes. On a refusal out keeps every byte; bytes past the result keep their contents. */
+   16 bytes. PRIV may stand more than once. On a refusal out keeps every byte; bytes past the result keep their contents. */
 qollqamir_written qollqamir_assemble(const uint8_t *names, size_t names_len, const uint32_t *sizes, size_t sizes_len,
                                      const uint8_t *data, size_t data_len, const uint8_t *digest, size_t digest_len, uint8_t *out,
                                      size_t out_len);

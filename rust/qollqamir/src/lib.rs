@@ -389,7 +389,7 @@ pub fn write_psv0(edition: Edition, sections: Sections<'_>, out: &mut [u8]) -> R
 }
 
 /// Assembles a container at the front of `out` and answers its length. `names` has four bytes a part, `data` the parts' data end to end.
-/// Refusals in order: 27, 6, 9, 2, 28. A refusal leaves `out` as it was; bytes past the result stay.
+/// PRIV may stand more than once. Refusals in order: 27, 6, 9, 2, 28. A refusal leaves `out` as it was; bytes past the result stay.
 pub fn assemble(names: &[u8], sizes: &[u32], data: &[u8], digest: &[u8], out: &mut [u8]) -> Result<usize, Refusal> {
     let written = raw::assemble(names, sizes, data, digest, out);
     judged(written.verdict)?;
