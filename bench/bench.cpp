@@ -27,6 +27,9 @@ uint8_t reference_difference(const uint8_t *, size_t, size_t, uint32_t, size_t *
 uint8_t reference_root(const uint8_t *, size_t, size_t);
 uint8_t reference_write_psv0(size_t, const uint8_t *const *, const size_t *, uint8_t *, size_t);
 uint8_t reference_assemble(const uint8_t *, const uint32_t *, size_t, const uint8_t *, size_t, const uint8_t *, uint8_t *, size_t);
+uint8_t reference_settings(const uint8_t *, size_t);
+uint8_t reference_settings_value(const uint8_t *, size_t, uint32_t, uint32_t);
+uint8_t reference_write_settings(const uint32_t *, size_t, uint8_t *, size_t);
 uint32_t pass_bytewise(const uint8_t *, size_t);
 uint32_t pass_vectorized(const uint8_t *, size_t);
 }
@@ -818,6 +821,49 @@ static void roots() {
     round_ns = usual;
 }
 
+// Settings files of numbers of one and of five groups: time in proportion to the rows, whatever is asked.
+static void settings() {
+    struct Case {
+        std::string name;
+        std::vector<uint32_t> rows;
+    };
+    std::vector<Case> cases;
+    for (bool wide : {false, true})
+        for (uint32_t n : {1, 8, 64, 512}) {
+            Case c{std::to_string(n) + (wide ? " rows, five groups" : " rows, one group"), {}};
+            for (uint32_t i = 0; i < n; i++)
+                for (uint32_t number : {wide ? UINT32_MAX - n + i : i * 127 / n, 2u, wide ? UINT32_MAX - i : i % 128})
+                    c.rows.push_back(number);
+            cases.push_back(c);
+        }
+    printf("\nsettings files, ns a call\n");
+    printf("%-24s %9s %11s %11s %11s %11s %11s %11s %11s\n", "", "bytes", "read", "value", "last row", "write", "ref. read", "ref. value",
+           "ref. write");
+    for (auto &c : cases) {
+        Bytes out(8192);
+        auto w = qollqamir_write_settings(c.rows.data(), c.rows.size(), out.data(), out.size());
+        require(w.verdict.number == 0, c.name);
+        Bytes b(out.begin(), out.begin() + w.len);
+        size_t last = c.rows.size() / 3 - 1;
+        uint32_t value = c.rows.back();
+        require(qollqamir_settings_read(b.data(), b.size()).rows == last + 1, c.name);
+        require(qollqamir_settings_value(b.data(), b.size(), 2, UINT32_MAX).setting.value == value, c.name);
+        require(qollqamir_settings_row(b.data(), b.size(), last).value == value, c.name);
+        require(reference_settings(b.data(), b.size()) == 0, c.name);
+        auto t = measure({repeat([&] { return qollqamir_settings_read(b.data(), b.size()); }),
+                          repeat([&] { return qollqamir_settings_value(b.data(), b.size(), 2, UINT32_MAX); }),
+                          repeat([&] { return qollqamir_settings_row(b.data(), b.size(), last); }),
+                          repeat([&] { return qollqamir_write_settings(c.rows.data(), c.rows.size(), out.data(), out.size()); }),
+                          repeat([&] { return reference_settings(b.data(), b.size()); }),
+                          repeat([&] { return reference_settings_value(b.data(), b.size(), 2, UINT32_MAX); }),
+                          repeat([&] { return reference_write_settings(c.rows.data(), c.rows.size(), out.data(), out.size()); })});
+        printf("%-24s %9zu", c.name.c_str(), b.size());
+        for (size_t k = 0; k < 7; k++)
+            cell(t[k]);
+        printf("\n");
+    }
+}
+
 // What handing back 1,944 bytes costs: the table of a file that the first check refuses, beside a call that hands back 40.
 static void handing_back(const std::filesystem::path &shader) {
     Bytes b = load(shader);
@@ -971,4 +1017,5 @@ int main(int argc, char **argv) {
     signatures();
     utf8();
     roots();
+    settings();
 }

@@ -1,9 +1,9 @@
-/* Qollqamir: a reader and writer of DirectX shader containers.
+/* Qollqamir: a reader and writer of DirectX shader containers, and of the settings files that say what is taken in.
 
    Every call takes any bytes and answers. Its answer begins with a verdict: number 0 where the call accepts, else a refusal number of
    documents 01 and 02 with its place. Beside a refusal every number is 0, no field is set, and a span has start and length 0.
    Every string that is shown is well-formed UTF-8 (table 3-7 of the Unicode Standard); its length doesn't count the zero after it.
-   A pointer is followed by its length and may be null where that is 0, "sizes" and "out" too; a name has no length and points to four
+   A pointer is followed by its length and may be null where that is 0, "sizes", "rows" and "out" too; a name has no length and points to four
    bytes. Only "out" is written; it must not overlap the others, and nothing else may change the bytes or "out" during a call.
    Calls share nothing and may run on any number of threads at once, on the same bytes too.
    An edition is 0 to 3; any other gives refusal 25. */
@@ -281,6 +281,36 @@ typedef struct {
     size_t offset;
 } qollqamir_range_record;
 
+/* A settings file: its number of rows, and the byte where the first begins. */
+typedef struct {
+    qollqamir_verdict verdict;
+    size_t rows;
+    size_t first;
+} qollqamir_settings;
+
+/* A row of a settings file. Its value, as every number of a settings file, is below 4294967296. */
+typedef struct {
+    qollqamir_verdict verdict;
+    uint32_t version;
+    uint32_t key;
+    size_t value;
+} qollqamir_setting_row;
+
+/* A row by itself, and the byte where it ends, at which the next begins. */
+typedef struct {
+    qollqamir_verdict verdict;
+    uint32_t version;
+    uint32_t key;
+    size_t value;
+    size_t end;
+} qollqamir_setting_row_alone;
+
+/* The value of a key at a version. */
+typedef struct {
+    qollqamir_verdict verdict;
+    qollqamir_field setting;
+} qollqamir_setting;
+
 /* Every byte of an answer is a byte of a field, so an answer can be written out, compared or hashed as it stands. A struct that is added
    gets its line here too. */
 #ifdef __cplusplus
@@ -334,6 +364,17 @@ QOLLQAMIR_NO_PADDING(qollqamir_span,
                      QOLLQAMIR_SIZE(qollqamir_span, verdict) + QOLLQAMIR_SIZE(qollqamir_span, start) + QOLLQAMIR_SIZE(qollqamir_span, len) +
                      QOLLQAMIR_SIZE(qollqamir_span, is_string) + QOLLQAMIR_SIZE(qollqamir_span, points));
 QOLLQAMIR_NO_PADDING(qollqamir_written, QOLLQAMIR_SIZE(qollqamir_written, verdict) + QOLLQAMIR_SIZE(qollqamir_written, len));
+QOLLQAMIR_NO_PADDING(qollqamir_settings,
+                     QOLLQAMIR_SIZE(qollqamir_settings, verdict) + QOLLQAMIR_SIZE(qollqamir_settings, rows) +
+                     QOLLQAMIR_SIZE(qollqamir_settings, first));
+QOLLQAMIR_NO_PADDING(qollqamir_setting_row,
+                     QOLLQAMIR_SIZE(qollqamir_setting_row, verdict) + QOLLQAMIR_SIZE(qollqamir_setting_row, version) +
+                     QOLLQAMIR_SIZE(qollqamir_setting_row, key) + QOLLQAMIR_SIZE(qollqamir_setting_row, value));
+QOLLQAMIR_NO_PADDING(qollqamir_setting_row_alone,
+                     QOLLQAMIR_SIZE(qollqamir_setting_row_alone, verdict) + QOLLQAMIR_SIZE(qollqamir_setting_row_alone, version) +
+                     QOLLQAMIR_SIZE(qollqamir_setting_row_alone, key) + QOLLQAMIR_SIZE(qollqamir_setting_row_alone, value) +
+                     QOLLQAMIR_SIZE(qollqamir_setting_row_alone, end));
+QOLLQAMIR_NO_PADDING(qollqamir_setting, QOLLQAMIR_SIZE(qollqamir_setting, verdict) + QOLLQAMIR_SIZE(qollqamir_setting, setting));
 QOLLQAMIR_NO_PADDING(qollqamir_program_header,
                      QOLLQAMIR_SIZE(qollqamir_program_header, version_major) + QOLLQAMIR_SIZE(qollqamir_program_header, version_minor) +
                      QOLLQAMIR_SIZE(qollqamir_program_header, stage) + QOLLQAMIR_SIZE(qollqamir_program_header, words) +
@@ -542,6 +583,27 @@ qollqamir_root_report qollqamir_root_signature(const uint8_t *bytes, size_t len,
 qollqamir_root_record qollqamir_root_item(const uint8_t *bytes, size_t len, size_t edition, size_t i);
 qollqamir_range_record qollqamir_root_range(const uint8_t *bytes, size_t len, size_t edition, size_t i, size_t j);
 
+/* A settings file, of any length: a row count of at most 512, then rows of version, key and value. A number is in groups of seven bits, least
+   first, the high bit set on all but the last, in its shortest form. Versions never fall. Keys: 1 least edition for release (0 to 3), 2 greatest
+   container length (any), 3 PRIV allowed (0 or 1). The earliest byte decides, which is the place; of one byte, the first of these that applies:
+   53 (a long form), 54 (4294967296 or more, or a fifth group with its high bit set), 55 (the file ends before the number does), each where
+   the number begins; 56 (more than 512 rows, place 0); 59 (a version below the one before), 57 (an unknown key), 58 (a value out of its key's
+   range), each where that number begins; 60 (bytes after the last row, the first of them). */
+qollqamir_settings qollqamir_settings_read(const uint8_t *bytes, size_t len);
+
+/* Row i of it: 53 to 60, then 26. */
+qollqamir_setting_row qollqamir_settings_row(const uint8_t *bytes, size_t len, size_t i);
+
+/* The value of a key at a version, that of the last row with the key and a version of at most this one: 53 to 60. It is unset where there is no
+   such row, so for a key other than 1 to 3. Found in one walk over the file. */
+qollqamir_setting qollqamir_settings_value(const uint8_t *bytes, size_t len, uint32_t key, uint32_t version);
+
+/* The row that begins at a byte, by itself, whatever stands before and after it: 53 to 55 and 57 to 59 of its own, with their places in the
+   file; last is the version of the row before, 0 for the first. Of a file that qollqamir_settings_read accepts, the row at "first" after
+   version 0 is row 0, and the row at the end of row i after its version is row i + 1: so it is listed by as many calls as it has rows, each of
+   which takes the same short time. */
+qollqamir_setting_row_alone qollqamir_settings_row_alone(const uint8_t *bytes, size_t len, size_t at, uint32_t last);
+
 /* Writes PSV0 data in plain form: 25; 27; 2; 15 to 24 as reader 3 would answer; 28. On a refusal out keeps every byte; bytes past the
    result keep their contents. */
 qollqamir_written qollqamir_write_psv0(size_t edition, const uint8_t *runtime, size_t runtime_len, const uint8_t *resources,
@@ -554,6 +616,11 @@ qollqamir_written qollqamir_write_psv0(size_t edition, const uint8_t *runtime, s
 qollqamir_written qollqamir_assemble(const uint8_t *names, size_t names_len, const uint32_t *sizes, size_t sizes_len,
                                      const uint8_t *data, size_t data_len, const uint8_t *digest, size_t digest_len, uint8_t *out,
                                      size_t out_len);
+
+/* Writes a settings file from rows as numbers, version, key and value of each in turn: 27 where they aren't whole rows, what
+   qollqamir_settings_read would give for the result, with that place (56, from 4294967296 rows on 54; 57, 58, 59), 28. On a refusal out keeps
+   every byte; bytes past the result keep their contents. 512 rows take 5634 bytes at most. */
+qollqamir_written qollqamir_write_settings(const uint32_t *rows, size_t rows_len, uint8_t *out, size_t out_len);
 
 #ifdef __cplusplus
 }

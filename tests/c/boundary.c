@@ -1,6 +1,6 @@
-/* Calls the library through its C header: the boxes M and C of document 01, the last field of every struct, both writers, several private
-   parts, the program header, the signature parts and the root signature of document 02, every byte of the answers of every call, null
-   pointers. */
+/* Calls the library through its C header: the boxes M and C of document 01, the last field of every struct, the three writers, several
+   private parts, the program header, the signature parts, the root signature and the settings files of document 02, every byte of the
+   answers of every call, null pointers. */
 #include "qollqamir.h"
 
 #include <stdio.h>
@@ -1784,9 +1784,702 @@ static void test_root(void) {
     no_root(bytes, n, 3, 26, 0);
 }
 
+/* ---- settings files */
+
+/* The rules once more, as the calls answer. A number from a byte on, by itself: 0 or 53 to 55, where it ends and its value. */
+struct number {
+    size_t fault, end;
+    uint32_t value;
+};
+
+static struct number number_at(const uint8_t *bytes, size_t len, size_t at) {
+    uint64_t sum = 0;
+    for (size_t k = 0; k < 5; k++) {
+        if (at >= len || k >= len - at) {
+            return (struct number){.fault = 55};
+        }
+        uint8_t group = bytes[at + k];
+        sum |= (uint64_t)(group & 0x7f) << 7 * k;
+        if (group < 0x80) {
+            return (struct number){k > 0 && group == 0 ? 53 : sum > UINT32_MAX ? 54 : 0, at + k + 1, (uint32_t)sum};
+        }
+    }
+    return (struct number){.fault = 54};
+}
+
+/* The row from a byte on, after a row of version last. */
+static qollqamir_setting_row_alone shown_row_alone(const uint8_t *bytes, size_t len, size_t at, uint32_t last) {
+    static const uint32_t greatest[4] = {0, 3, UINT32_MAX, 1};
+    uint32_t row[3];
+    for (int i = 0; i < 3; i++) {
+        struct number number = number_at(bytes, len, at);
+        row[i] = number.value;
+        size_t fault = number.fault;
+        if (fault == 0) {
+            bool good = i == 0 ? row[0] >= last : i == 1 ? row[1] >= 1 && row[1] <= 3 : row[2] <= greatest[row[1]];
+            fault = good ? 0 : i == 0 ? 59 : i == 1 ? 57 : 58;
+        }
+        if (fault != 0) {
+            return (qollqamir_setting_row_alone){.verdict = {fault, at}};
+        }
+        at = number.end;
+    }
+    return (qollqamir_setting_row_alone){{0, 0}, row[0], row[1], row[2], at};
+}
+
+static qollqamir_settings shown_settings(const uint8_t *bytes, size_t len) {
+    struct number rows = number_at(bytes, len, 0);
+    if (rows.fault != 0 || rows.value > 512) {
+        return (qollqamir_settings){.verdict = {rows.fault != 0 ? rows.fault : 56, 0}};
+    }
+    qollqamir_setting_row_alone row = {.end = rows.end};
+    for (size_t i = 0; i < rows.value; i++) {
+        row = shown_row_alone(bytes, len, row.end, row.version);
+        if (row.verdict.number != 0) {
+            return (qollqamir_settings){.verdict = row.verdict};
+        }
+    }
+    if (row.end < len) {
+        return (qollqamir_settings){.verdict = {60, row.end}};
+    }
+    return (qollqamir_settings){{0, 0}, rows.value, rows.end};
+}
+
+static qollqamir_setting_row shown_row(const uint8_t *bytes, size_t len, size_t i) {
+    qollqamir_settings file = shown_settings(bytes, len);
+    if (file.verdict.number != 0 || i >= file.rows) {
+        return (qollqamir_setting_row){.verdict = file.verdict.number != 0 ? file.verdict : (qollqamir_verdict){26, 0}};
+    }
+    qollqamir_setting_row_alone row = {.end = file.first};
+    for (size_t k = 0; k <= i; k++) {
+        row = shown_row_alone(bytes, len, row.end, row.version);
+    }
+    return (qollqamir_setting_row){{0, 0}, row.version, row.key, row.value};
+}
+
+static qollqamir_setting shown_value(const uint8_t *bytes, size_t len, uint32_t key, uint32_t version) {
+    qollqamir_settings file = shown_settings(bytes, len);
+    qollqamir_setting shown = {.verdict = file.verdict};
+    qollqamir_setting_row_alone row = {.end = file.first};
+    for (size_t i = 0; i < file.rows; i++) {
+        row = shown_row_alone(bytes, len, row.end, row.version);
+        if (row.key == key && row.version <= version) {
+            shown.setting = (qollqamir_field){1, (uint32_t)row.value};
+        }
+    }
+    return shown;
+}
+
+static size_t put_number(uint8_t *at, uint32_t number) {
+    size_t n = 0;
+    for (; number >= 0x80; number >>= 7) {
+        at[n++] = (uint8_t)(number | 0x80);
+    }
+    at[n++] = (uint8_t)number;
+    return n;
+}
+
+/* Room for the longest file and for a few rows more than there may be, good or not. */
+enum { MOST_ROWS = 512, LONGEST = 2 + 11 * MOST_ROWS, ROOM = 10000 };
+
+/* The file of rows as numbers, whatever they are. */
+static size_t put_rows(uint8_t *out, const uint32_t *rows, size_t numbers) {
+    size_t n = put_number(out, (uint32_t)(numbers / 3));
+    for (size_t i = 0; i < numbers; i++) {
+        n += put_number(out + n, rows[i]);
+    }
+    return n;
+}
+
+/* What the writer gives: 27, what reading its result gives, 28. */
+static qollqamir_written shown_written(const uint32_t *rows, size_t numbers, size_t room) {
+    static uint8_t file[ROOM];
+    size_t len = put_rows(file, rows, numbers);
+    qollqamir_verdict verdict = numbers % 3 != 0 ? (qollqamir_verdict){27, 0} : shown_settings(file, len).verdict;
+    if (verdict.number == 0 && room < len) {
+        verdict = (qollqamir_verdict){28, 0};
+    }
+    return (qollqamir_written){verdict, verdict.number == 0 ? len : 0};
+}
+
+#define SAME(type, got, expected)                          \
+    do {                                                   \
+        type given = got, wanted = expected;               \
+        CHECK(memcmp(&given, &wanted, sizeof(type)) == 0); \
+    } while (0)
+
+/* The writer with room to spare, with just enough, with less and with none. It gives this refusal, or writes the file of these rows; the
+   rest of the output stays. Reading its result gives the same. */
+static void writes(const uint32_t *rows, size_t numbers, size_t number, size_t place) {
+    static uint8_t file[ROOM], out[ROOM], stood[ROOM];
+    size_t len = put_rows(file, rows, numbers);
+    if (numbers % 3 == 0) {
+        REFUSED(qollqamir_settings_read(file, len), number, place);
+    }
+    const size_t rooms[] = {ROOM, len + 1, len, len - 1, len / 2, 0};
+    for (size_t k = 0; k < sizeof rooms / sizeof *rooms; k++) {
+        memset(out, k % 2 == 0 ? 0xee : 0x11, ROOM);
+        memcpy(stood, out, ROOM);
+        qollqamir_written written = qollqamir_write_settings(rows, numbers, rooms[k] == 0 ? NULL : out, rooms[k]);
+        if (number != 0) {
+            REFUSED(written, number, place);
+        } else {
+            REFUSED(written, rooms[k] < len ? 28 : 0, 0);
+        }
+        CHECK(written.len == (written.verdict.number == 0 ? len : 0));
+        CHECK(memcmp(out, file, written.len) == 0 && memcmp(out + written.len, stood + written.len, ROOM - written.len) == 0);
+        SAME(qollqamir_written, written, shown_written(rows, numbers, rooms[k]));
+    }
+}
+
+/* Every key at a version, a few more too. */
+static void values_at(const uint8_t *bytes, size_t len, uint32_t version) {
+    static const uint32_t keys[] = {0, 1, 2, 3, 4, 257, 65538, UINT32_MAX};
+    for (size_t k = 0; k < sizeof keys / sizeof *keys; k++) {
+        SAME(qollqamir_setting, qollqamir_settings_value(bytes, len, keys[k], version), shown_value(bytes, len, keys[k], version));
+    }
+}
+
+/* Every call on a settings file, which is accepted where number is 0. Then listing it gives each row and ends at its length, and writing
+   its rows again gives the same bytes. */
+static void settings(const uint8_t *bytes, size_t len, size_t number, size_t place) {
+    qollqamir_settings read = qollqamir_settings_read(bytes, len);
+    REFUSED(read, number, place);
+    SAME(qollqamir_settings, read, shown_settings(bytes, len));
+    const size_t beyond[] = {read.rows, read.rows + 1, 511, 512, 513, (size_t)1 << 32, SIZE_MAX};
+    for (size_t k = 0; k < sizeof beyond / sizeof *beyond; k++) {
+        SAME(qollqamir_setting_row, qollqamir_settings_row(bytes, len, beyond[k]), shown_row(bytes, len, beyond[k]));
+    }
+    values_at(bytes, len, 0);
+    values_at(bytes, len, UINT32_MAX);
+
+    static uint32_t rows[3 * MOST_ROWS];
+    qollqamir_setting_row_alone row = {.end = read.first};
+    for (size_t i = 0; i < read.rows; i++) {
+        uint32_t last = row.version;
+        size_t at = row.end;
+        row = qollqamir_settings_row_alone(bytes, len, at, last);
+        SAME(qollqamir_setting_row_alone, row, shown_row_alone(bytes, len, at, last));
+        qollqamir_setting_row numbered = qollqamir_settings_row(bytes, len, i);
+        SAME(qollqamir_setting_row, numbered, ((qollqamir_setting_row){{0, 0}, row.version, row.key, row.value}));
+        rows[3 * i] = row.version;
+        rows[3 * i + 1] = row.key;
+        rows[3 * i + 2] = (uint32_t)row.value;
+        /* Of a long file, about the first and the last versions. */
+        if (i < 8 || i + 8 > read.rows) {
+            values_at(bytes, len, row.version - 1);
+            values_at(bytes, len, row.version);
+            values_at(bytes, len, row.version + 1);
+        }
+    }
+    if (number == 0) {
+        CHECK(row.end == len);
+        writes(rows, 3 * read.rows, 0, 0);
+        static uint8_t file[ROOM];
+        CHECK(put_rows(file, rows, 3 * read.rows) == len && memcmp(file, bytes, len) == 0);
+    }
+}
+
+/* The bytes of a literal, and how many. */
+#define BYTES(literal) (literal), sizeof(literal) - 1
+
+/* Forms of a number: good, long, too large, cut. A cut one is followed by nothing. */
+static const struct {
+    const char *bytes;
+    size_t len, fault;
+    uint32_t value;
+} forms[] = {
+    {BYTES("\x00"), 0, 0},
+    {BYTES("\x01"), 0, 1},
+    {BYTES("\x02"), 0, 2},
+    {BYTES("\x03"), 0, 3},
+    {BYTES("\x04"), 0, 4},
+    {BYTES("\x7f"), 0, 127},
+    {BYTES("\x80\x01"), 0, 128},
+    {BYTES("\x81\x02"), 0, 257},
+    {BYTES("\xff\x03"), 0, 511},
+    {BYTES("\x80\x04"), 0, 512},
+    {BYTES("\x81\x04"), 0, 513},
+    {BYTES("\xff\x7f"), 0, 16383},
+    {BYTES("\x80\x80\x01"), 0, 16384},
+    {BYTES("\x81\x80\x04"), 0, 65537},
+    {BYTES("\xff\xff\x7f"), 0, 2097151},
+    {BYTES("\x80\x80\x80\x01"), 0, 2097152},
+    {BYTES("\xff\xff\xff\x7f"), 0, 268435455},
+    {BYTES("\x80\x80\x80\x80\x01"), 0, 268435456},
+    {BYTES("\x81\x80\x80\x80\x08"), 0, 2147483649},
+    {BYTES("\xff\xff\xff\xff\x0f"), 0, 4294967295},
+    {BYTES("\x80\x00"), 53, 0},
+    {BYTES("\x81\x00"), 53, 0},
+    {BYTES("\xff\x00"), 53, 0},
+    {BYTES("\x80\x80\x00"), 53, 0},
+    {BYTES("\x81\x80\x00"), 53, 0},
+    {BYTES("\xff\xff\x00"), 53, 0},
+    {BYTES("\x80\x80\x80\x00"), 53, 0},
+    {BYTES("\xff\xff\xff\x00"), 53, 0},
+    {BYTES("\x80\x80\x80\x80\x00"), 53, 0},
+    {BYTES("\x81\x80\x80\x80\x00"), 53, 0},
+    {BYTES("\xff\xff\xff\xff\x00"), 53, 0},
+    {BYTES("\x80\x80\x80\x80\x10"), 54, 0},
+    {BYTES("\x81\x80\x80\x80\x10"), 54, 0},
+    {BYTES("\xff\xff\xff\xff\x1f"), 54, 0},
+    {BYTES("\x80\x80\x80\x80\x20"), 54, 0},
+    {BYTES("\x82\x80\x80\x80\x40"), 54, 0},
+    {BYTES("\xff\xff\xff\xff\x7f"), 54, 0},
+    {BYTES("\x80\x80\x80\x80\x80"), 54, 0},
+    {BYTES("\x81\x80\x80\x80\x80"), 54, 0},
+    {BYTES("\xff\xff\xff\xff\x8f"), 54, 0},
+    {BYTES("\xff\xff\xff\xff\xff"), 54, 0},
+    {BYTES(""), 55, 0},
+    {BYTES("\x80"), 55, 0},
+    {BYTES("\x81"), 55, 0},
+    {BYTES("\xff"), 55, 0},
+    {BYTES("\x80\x80"), 55, 0},
+    {BYTES("\x80\x80\x80"), 55, 0},
+    {BYTES("\xff\xff\xff"), 55, 0},
+    {BYTES("\x80\x80\x80\x80"), 55, 0},
+    {BYTES("\xff\xff\xff\xff"), 55, 0},
+};
+
+/* Each form as the row count and as each number of a first and a second row, with different bytes after it. */
+static void test_settings_numbers(void) {
+    static const struct { const char *before; size_t len; int kind; } places[] = {
+        {BYTES(""), 0},
+        {BYTES("\x01"), 1},
+        {BYTES("\x01\x05"), 2},
+        {BYTES("\x01\x05\x02"), 3},
+        {BYTES("\x02\x00\x02\xff\x01"), 1},
+        {BYTES("\x02\x00\x02\xff\x01\x80\x01"), 2},
+        {BYTES("\x02\x00\x02\xff\x01\x80\x01\x02"), 3},
+    };
+    static const struct { const char *bytes; size_t len; } tails[] = {
+        {BYTES("")}, {BYTES("\x00")}, {BYTES("\x01")}, {BYTES("\x80")}, {BYTES("\x02\x07")}, {BYTES("\x80\x00\x80\x00")},
+        {BYTES("\xff\xff\xff\xff\xff")},
+    };
+    uint8_t file[LONGEST];
+    for (size_t f = 0; f < sizeof forms / sizeof *forms; f++) {
+        for (size_t s = 0; s < sizeof places / sizeof *places; s++) {
+            size_t place = put(file, places[s].before, places[s].len), fault = forms[f].fault;
+            size_t n = place + put(file + place, forms[f].bytes, forms[f].len);
+            if (fault == 55) {
+                settings(file, n, 55, place);
+                continue;
+            }
+            if (fault == 0 && places[s].kind == 0) {
+                fault = forms[f].value > 512 ? 56 : 0;
+            }
+            if (fault == 0 && places[s].kind == 2) {
+                fault = forms[f].value < 1 || forms[f].value > 3 ? 57 : 0;
+            }
+            for (size_t t = 0; fault != 0 && t < sizeof tails / sizeof *tails; t++) {
+                settings(file, n + put(file + n, tails[t].bytes, tails[t].len), fault, place);
+            }
+            if (fault != 0) {
+                continue;
+            }
+            /* A good one: the file goes on as it needs to. */
+            for (uint32_t i = 0; places[s].kind == 0 && i < forms[f].value; i++) {
+                n += put(file + n, "\x05\x02\x07", 3);
+            }
+            if (places[s].kind == 1 || places[s].kind == 2) {
+                n += put(file + n, places[s].kind == 1 ? "\x02\x07" : "\x01", places[s].kind == 1 ? 2 : 1);
+            }
+            settings(file, n, 0, 0);
+            qollqamir_settings read = qollqamir_settings_read(file, n);
+            qollqamir_setting_row row = qollqamir_settings_row(file, n, read.rows - 1);
+            CHECK(places[s].kind != 0 || (read.rows == forms[f].value && read.first == forms[f].len));
+            CHECK(places[s].kind != 1 || row.version == forms[f].value);
+            CHECK(places[s].kind != 2 || row.key == forms[f].value);
+            CHECK(places[s].kind != 3 || row.value == forms[f].value);
+        }
+    }
+    /* The edges once more in plain numbers. */
+    REFUSED(qollqamir_settings_read(NULL, 0), 55, 0);
+    REFUSED(qollqamir_settings_read(name("\x80\x80\x80\x80\x80\x00"), 6), 54, 0);
+    REFUSED(qollqamir_settings_read(name("\x80\x80\x80\x80\x80"), 5), 54, 0);
+    REFUSED(qollqamir_settings_read(name("\x80\x80\x80\x80"), 4), 55, 0);
+    REFUSED(qollqamir_settings_read(name("\x80\x80\x80\x80\x00"), 5), 53, 0);
+    REFUSED(qollqamir_settings_read(name("\xff\xff\xff\xff\x0f"), 5), 56, 0);
+    qollqamir_setting_row row = qollqamir_settings_row(name("\x01\xff\xff\xff\xff\x0f\x02\xff\xff\xff\xff\x0f"), 12, 0);
+    ACCEPTED(row);
+    CHECK(row.version == 4294967295 && row.key == 2 && row.value == 4294967295);
+    REFUSED(qollqamir_settings_row(name("\x01\x00\x02\x80\x80\x80\x80\x10"), 8, 0), 54, 3);
+}
+
+/* Row counts about each edge, with as many rows, fewer and more, of the fewest bytes and of the most. */
+static void test_settings_count(void) {
+    static const uint32_t counts[] = {0, 1, 2, 127, 128, 511, 512, 513, 514, 600};
+    static uint32_t rows[3 * 600];
+    static uint8_t file[ROOM];
+    for (size_t k = 0; k < sizeof counts / sizeof *counts; k++) {
+        size_t count = counts[k], number = count > 512 ? 56 : 0;
+        for (int most = 0; most < 2; most++) {
+            for (uint32_t i = 0; i < count; i++) {
+                rows[3 * i] = most ? UINT32_MAX - 600 + i : 0;
+                rows[3 * i + 1] = most ? 2 : 1 + i % 3;
+                rows[3 * i + 2] = most ? UINT32_MAX - i : i % 2;
+            }
+            writes(rows, 3 * count, number, 0);
+            size_t len = put_rows(file, rows, 3 * count), first = count < 128 ? 1 : 2, size = most ? 11 : 3;
+            CHECK(len == first + size * count && (count != 512 || !most || len == LONGEST));
+            settings(file, len, number, 0);
+            file[len] = 0;
+            settings(file, len + 1, number != 0 ? number : 60, number != 0 ? 0 : len);
+            /* Cut in the last value, before the last row and right after the count. */
+            if (count > 0) {
+                settings(file, len - 1, number != 0 ? number : 55, number != 0 ? 0 : len - (most ? 5 : 1));
+                settings(file, len - size, number != 0 ? number : 55, number != 0 ? 0 : len - size);
+                settings(file, first, number != 0 ? number : 55, number != 0 ? 0 : first);
+            }
+            /* One row fewer than there are, where the count has the same length. */
+            if (count > 1 && count != 128) {
+                put_number(file, (uint32_t)count - 1);
+                settings(file, len, count > 513 ? 56 : 60, count > 513 ? 0 : len - size);
+            }
+        }
+    }
+    /* The last rows, which are looked at as the others are. */
+    qollqamir_settings read = qollqamir_settings_read(file, put_rows(file, rows, 3 * MOST_ROWS));
+    ACCEPTED(read);
+    CHECK(read.rows == 512 && read.first == 2);
+    SET(qollqamir_settings_value(file, LONGEST, 2, UINT32_MAX).setting, UINT32_MAX - 511);
+    CHECK(qollqamir_settings_row(file, LONGEST, 511).value == UINT32_MAX - 511);
+    REFUSED(qollqamir_settings_row(file, LONGEST, 512), 26, 0);
+    static const struct { size_t number, at; uint32_t bad; } faults[] = {
+        {59, 1533, 0}, {57, 1534, 4}, {57, 1534, 0}, {59, 1530, UINT32_MAX},
+    };
+    for (size_t k = 0; k < 4; k++) {
+        uint32_t was = rows[faults[k].at];
+        rows[faults[k].at] = faults[k].bad;
+        size_t len = put_rows(file, rows, 3 * MOST_ROWS), place = LONGEST - (faults[k].number == 57 ? 6 : 11);
+        settings(file, len, faults[k].number, place);
+        writes(rows, 3 * MOST_ROWS, faults[k].number, place);
+        /* With one row more that is no matter. */
+        writes(rows, 3 * MOST_ROWS + 3, 56, 0);
+        rows[faults[k].at] = was;
+    }
+}
+
+/* Versions, keys and values at the edges of what is good, in the second of three rows. */
+static void test_settings_ranges(void) {
+    static const struct { uint32_t row[3]; size_t number, place; } seconds[] = {
+        {{300, 2, 0}, 0, 0},
+        {{301, 2, 0}, 0, 0},
+        {{UINT32_MAX, 2, 0}, 0, 0},
+        {{299, 2, 0}, 59, 5},
+        {{0, 2, 0}, 59, 5},
+        {{44, 2, 0}, 59, 5},
+        {{300, 0, 0}, 57, 7},
+        {{300, 4, 0}, 57, 7},
+        {{300, 127, 0}, 57, 7},
+        {{300, 128, 0}, 57, 7},
+        {{300, 257, 0}, 57, 7},
+        {{300, 65538, 0}, 57, 7},
+        {{300, 0x80000003, 0}, 57, 7},
+        {{300, UINT32_MAX, 0}, 57, 7},
+        {{300, 1, 0}, 0, 0},
+        {{300, 1, 3}, 0, 0},
+        {{300, 1, 4}, 58, 8},
+        {{300, 1, 128}, 58, 8},
+        {{300, 1, 256}, 58, 8},
+        {{300, 1, 65536}, 58, 8},
+        {{300, 1, 0x80000000}, 58, 8},
+        {{300, 1, UINT32_MAX}, 58, 8},
+        {{300, 2, UINT32_MAX}, 0, 0},
+        {{300, 3, 0}, 0, 0},
+        {{300, 3, 1}, 0, 0},
+        {{300, 3, 2}, 58, 8},
+        {{300, 3, 3}, 58, 8},
+        {{300, 3, 256}, 58, 8},
+        {{300, 3, UINT32_MAX}, 58, 8},
+        /* Two faults of one row. */
+        {{299, 4, 0}, 59, 5},
+        {{299, 1, 4}, 59, 5},
+        {{300, 4, UINT32_MAX}, 57, 7},
+    };
+    for (size_t k = 0; k < sizeof seconds / sizeof *seconds; k++) {
+        const uint32_t *second = seconds[k].row;
+        uint32_t rows[9] = {300, 3, 1, second[0], second[1], second[2], UINT32_MAX, 1, 2};
+        uint8_t file[64];
+        size_t len = put_rows(file, rows, 9);
+        settings(file, len, seconds[k].number, seconds[k].place);
+        writes(rows, 9, seconds[k].number, seconds[k].place);
+        /* A fault in the third row comes after. */
+        rows[7] = 0;
+        size_t third = len - 2;
+        len = put_rows(file, rows, 9);
+        settings(file, len, seconds[k].number != 0 ? seconds[k].number : 57, seconds[k].number != 0 ? seconds[k].place : third);
+        writes(rows, 9, seconds[k].number != 0 ? seconds[k].number : 57, seconds[k].number != 0 ? seconds[k].place : third);
+    }
+    /* A version is held against that of the row before, not the first or the greatest: the third falls. */
+    static const uint32_t falls[12] = {5, 2, 0, 9, 2, 0, 8, 2, 0, 9, 2, 0};
+    writes(falls, 12, 59, 7);
+    writes(falls, 6, 0, 0);
+    static const uint32_t levels[12] = {0, 2, 0, 0, 1, 0, UINT32_MAX, 3, 0, UINT32_MAX, 3, 1};
+    writes(levels, 12, 0, 0);
+}
+
+/* A file of two rows, number by number, and ways in which one of them is bad: as many numbers as apply at one byte, the first of which
+   decides. Where the file is cut, it ends in that number. */
+static const struct { const char *bytes; size_t len; } slots[] = {
+    {BYTES("\x02")}, {BYTES("\x85\x01")}, {BYTES("\x01")}, {BYTES("\x03")},
+    {BYTES("\x85\x01")}, {BYTES("\x03")}, {BYTES("\x01")}, {BYTES("")},
+};
+enum { SLOTS = sizeof slots / sizeof *slots };
+
+static const struct way {
+    size_t slot;
+    const char *bytes;
+    size_t len, number;
+    bool cut;
+} ways[] = {
+    /* The row count. 513 in a long form, 2^32 and more, and a cut one that can only be above 512 are not 56. */
+    {0, BYTES("\x82\x00"), 53, false},
+    {0, BYTES("\x81\x84\x00"), 53, false},
+    {0, BYTES("\x80\x80\x80\x80\x10"), 54, false},
+    {0, BYTES("\x82\x80\x80\x80\x10"), 54, false},
+    {0, BYTES("\xff\xff\xff\xff\xff"), 54, false},
+    {0, BYTES(""), 55, true},
+    {0, BYTES("\x82"), 55, true},
+    {0, BYTES("\xff\xff"), 55, true},
+    {0, BYTES("\xff\xff\xff\xff"), 55, true},
+    {0, BYTES("\x81\x04"), 56, false},
+    {0, BYTES("\xff\xff\xff\xff\x0f"), 56, false},
+    /* The first version, below which none can be. */
+    {1, BYTES("\x80\x00"), 53, false},
+    {1, BYTES("\xff\xff\xff\xff\x10"), 54, false},
+    {1, BYTES("\x85\x81\x80\x80\x80"), 54, false},
+    {1, BYTES(""), 55, true},
+    {1, BYTES("\x85"), 55, true},
+    /* Keys, good and unknown ones in a bad form. */
+    {2, BYTES("\x81\x00"), 53, false},
+    {2, BYTES("\x84\x00"), 53, false},
+    {2, BYTES("\x81\x80\x80\x80\x10"), 54, false},
+    {2, BYTES("\x80\x80\x80\x80\x80"), 54, false},
+    {2, BYTES(""), 55, true},
+    {2, BYTES("\x84"), 55, true},
+    {2, BYTES("\x00"), 57, false},
+    {2, BYTES("\x04"), 57, false},
+    {2, BYTES("\x81\x01"), 57, false},
+    /* Values of key 1. */
+    {3, BYTES("\x83\x00"), 53, false},
+    {3, BYTES("\x84\x00"), 53, false},
+    {3, BYTES("\x81\x80\x80\x80\x10"), 54, false},
+    {3, BYTES("\x84\x80\x80\x80\x80"), 54, false},
+    {3, BYTES(""), 55, true},
+    {3, BYTES("\x84\x84"), 55, true},
+    {3, BYTES("\x04"), 58, false},
+    {3, BYTES("\xff\xff\xff\xff\x0f"), 58, false},
+    /* The second version, good and falling ones in a bad form. */
+    {4, BYTES("\x85\x81\x00"), 53, false},
+    {4, BYTES("\x84\x00"), 53, false},
+    {4, BYTES("\x84\x80\x80\x80\x10"), 54, false},
+    {4, BYTES("\x84\x81\x80\x80\x80"), 54, false},
+    {4, BYTES(""), 55, true},
+    {4, BYTES("\x84"), 55, true},
+    {4, BYTES("\x84\x81\x80\x80"), 55, true},
+    {4, BYTES("\x84\x01"), 59, false},
+    {4, BYTES("\x00"), 59, false},
+    {5, BYTES("\x83\x00"), 53, false},
+    {5, BYTES("\x84\x00"), 53, false},
+    {5, BYTES("\x83\x80\x80\x80\x10"), 54, false},
+    {5, BYTES(""), 55, true},
+    {5, BYTES("\x84"), 55, true},
+    {5, BYTES("\x00"), 57, false},
+    {5, BYTES("\x04"), 57, false},
+    /* Values of key 3. */
+    {6, BYTES("\x81\x00"), 53, false},
+    {6, BYTES("\x82\x00"), 53, false},
+    {6, BYTES("\x81\x80\x80\x80\x10"), 54, false},
+    {6, BYTES("\x82\x80\x80\x80\x80"), 54, false},
+    {6, BYTES(""), 55, true},
+    {6, BYTES("\x82"), 55, true},
+    {6, BYTES("\x02"), 58, false},
+    {7, BYTES("\x00"), 60, false},
+    {7, BYTES("\x80"), 60, false},
+    {7, BYTES("\xff\xff\xff\xff\xff"), 60, false},
+};
+
+/* Each fault alone, and with each fault of a later number: the earlier place wins. */
+static void test_settings_faults(void) {
+    enum { WAYS = sizeof ways / sizeof *ways };
+    for (size_t a = 0; a < WAYS; a++) {
+        for (size_t b = 0; b < WAYS; b++) {
+            /* The way with itself is that one alone. */
+            if (a != b && (ways[b].slot <= ways[a].slot || ways[a].cut)) {
+                continue;
+            }
+            uint8_t file[64];
+            size_t n = 0, place = 0;
+            for (size_t s = 0; s < SLOTS; s++) {
+                const struct way *way = s == ways[a].slot ? &ways[a] : s == ways[b].slot ? &ways[b] : NULL;
+                place = s == ways[a].slot ? n : place;
+                n += way != NULL ? put(file + n, way->bytes, way->len) : put(file + n, slots[s].bytes, slots[s].len);
+                if (way != NULL && way->cut) {
+                    break;
+                }
+            }
+            settings(file, n, ways[a].number, place);
+        }
+    }
+}
+
+static void test_settings_values(void) {
+    static const uint32_t rows[] = {5, 1, 1, 5, 1, 2, 9, 2, UINT32_MAX, 9, 1, 0, 9, 3, 1, 20, 2, 0, 20, 3, 0, 20, 1, 3};
+    enum { COUNT = sizeof rows / sizeof *rows / 3 };
+    uint8_t file[64];
+    size_t len = put_rows(file, rows, 3 * COUNT);
+    settings(file, len, 0, 0);
+    qollqamir_settings read = qollqamir_settings_read(file, len);
+    CHECK(read.rows == COUNT && read.first == 1);
+#define VALUE(key, version) qollqamir_settings_value(file, len, key, version).setting
+    UNSET(VALUE(1, 0));
+    UNSET(VALUE(1, 4));
+    SET(VALUE(1, 5), 2);
+    SET(VALUE(1, 8), 2);
+    SET(VALUE(1, 9), 0);
+    SET(VALUE(1, 19), 0);
+    SET(VALUE(1, 20), 3);
+    SET(VALUE(1, UINT32_MAX), 3);
+    UNSET(VALUE(2, 8));
+    SET(VALUE(2, 9), UINT32_MAX);
+    SET(VALUE(2, 19), UINT32_MAX);
+    SET(VALUE(2, 20), 0);
+    UNSET(VALUE(3, 5));
+    UNSET(VALUE(3, 8));
+    SET(VALUE(3, 9), 1);
+    SET(VALUE(3, 19), 1);
+    SET(VALUE(3, 21), 0);
+    UNSET(VALUE(0, 20));
+    UNSET(VALUE(4, 20));
+    UNSET(VALUE(UINT32_MAX, UINT32_MAX));
+#undef VALUE
+    /* A last row above all others changes nothing below its version. */
+    for (uint32_t key = 1; key <= 3; key++) {
+        uint32_t more[3 * (COUNT + 1)];
+        uint8_t longer[64];
+        memcpy(more, rows, sizeof rows);
+        more[3 * COUNT] = 21;
+        more[3 * COUNT + 1] = key;
+        more[3 * COUNT + 2] = 1;
+        size_t n = put_rows(longer, more, 3 * (COUNT + 1));
+        settings(longer, n, 0, 0);
+        for (uint32_t asked_key = 0; asked_key <= 4; asked_key++) {
+            for (uint32_t version = 0; version <= 20; version++) {
+                SAME(qollqamir_setting, qollqamir_settings_value(longer, n, asked_key, version),
+                     qollqamir_settings_value(file, len, asked_key, version));
+            }
+        }
+        SET(qollqamir_settings_value(longer, n, key, 21).setting, 1);
+    }
+    /* No row, and each row by its number. */
+    settings(name("\x00"), 1, 0, 0);
+    UNSET(qollqamir_settings_value(name("\x00"), 1, 1, UINT32_MAX).setting);
+    REFUSED(qollqamir_settings_row(name("\x00"), 1, 0), 26, 0);
+    for (size_t i = 0; i < COUNT; i++) {
+        qollqamir_setting_row row = qollqamir_settings_row(file, len, i);
+        ACCEPTED(row);
+        CHECK(row.version == rows[3 * i] && row.key == rows[3 * i + 1] && row.value == rows[3 * i + 2]);
+    }
+    qollqamir_setting_row none = qollqamir_settings_row(file, len, COUNT);
+    REFUSED(none, 26, 0);
+    CHECK(none.version == 0 && none.key == 0 && none.value == 0);
+    /* A refused file shows nothing, the rows and values before its fault neither. */
+    file[len] = 0;
+    none = qollqamir_settings_row(file, len + 1, 0);
+    REFUSED(none, 60, len);
+    CHECK(none.version == 0 && none.key == 0 && none.value == 0);
+    qollqamir_setting value = qollqamir_settings_value(file, len + 1, 1, 5);
+    REFUSED(value, 60, len);
+    UNSET(value.setting);
+    REFUSED(qollqamir_settings_value(file, len + 1, 0, 0), 60, len);
+    read = qollqamir_settings_read(file, len + 1);
+    REFUSED(read, 60, len);
+    CHECK(read.rows == 0 && read.first == 0);
+}
+
+/* A row by itself, from every byte on, after different versions and whatever stands around it. */
+static void test_settings_row_alone(void) {
+    static const char bytes[] = "\xff\xff\xff\xff\xff\x00\x85\x01\x02\xff\x7f\x85\x01\x03\x01\x04\x01\x04\x80\x00\x01\x03\x81\x00\xff";
+    const uint8_t *file = name(bytes);
+    static const uint32_t lasts[] = {0, 1, 2, 3, 4, 5, 127, 128, 132, 133, 134, 256, 261, 16383, 65536, 0x80000085, UINT32_MAX};
+    for (size_t len = 0; len < sizeof bytes; len++) {
+        for (size_t at = 0; at <= len + 2; at++) {
+            for (size_t k = 0; k < sizeof lasts / sizeof *lasts; k++) {
+                qollqamir_setting_row_alone row = qollqamir_settings_row_alone(file, len, at, lasts[k]);
+                SAME(qollqamir_setting_row_alone, row, shown_row_alone(file, len, at, lasts[k]));
+            }
+        }
+        const size_t past[] = {len, len + 1, len + 5, (size_t)1 << 32, ((size_t)1 << 32) + 6, (size_t)1 << 63, SIZE_MAX - 5, SIZE_MAX - 4,
+                               SIZE_MAX - 1, SIZE_MAX};
+        for (size_t k = 0; k < sizeof past / sizeof *past; k++) {
+            qollqamir_setting_row_alone row = qollqamir_settings_row_alone(file, len, past[k], 0);
+            REFUSED(row, 55, past[k]);
+            CHECK(row.version == 0 && row.key == 0 && row.value == 0 && row.end == 0);
+        }
+    }
+    /* The same once more in plain numbers. */
+    size_t len = sizeof bytes - 1;
+    qollqamir_setting_row_alone row = qollqamir_settings_row_alone(file, len, 6, 0);
+    ACCEPTED(row);
+    CHECK(row.version == 133 && row.key == 2 && row.value == 16383 && row.end == 11);
+    row = qollqamir_settings_row_alone(file, len, row.end, row.version);
+    ACCEPTED(row);
+    CHECK(row.version == 133 && row.key == 3 && row.value == 1 && row.end == 15);
+    row = qollqamir_settings_row_alone(file, len, 6, 134);
+    REFUSED(row, 59, 6);
+    CHECK(row.version == 0 && row.key == 0 && row.value == 0 && row.end == 0);
+    REFUSED(qollqamir_settings_row_alone(file, len, 15, 4), 58, 17);
+    REFUSED(qollqamir_settings_row_alone(file, len, 15, 5), 59, 15);
+    REFUSED(qollqamir_settings_row_alone(file, len, 16, 0), 57, 17);
+    REFUSED(qollqamir_settings_row_alone(file, len, 0, 0), 54, 0);
+    REFUSED(qollqamir_settings_row_alone(file, len, 18, 0), 53, 18);
+    REFUSED(qollqamir_settings_row_alone(file, len, 20, 1), 53, 22);
+    REFUSED(qollqamir_settings_row_alone(file, 9, 6, 133), 55, 9);
+    REFUSED(qollqamir_settings_row_alone(file, 10, 6, 133), 55, 9);
+    REFUSED(qollqamir_settings_row_alone(NULL, 0, 0, 0), 55, 0);
+    REFUSED(qollqamir_settings_row_alone(NULL, 0, 7, 0), 55, 7);
+}
+
+static void test_write_settings(void) {
+    /* Places are those in the result, where the rows begin at 1, 5 and 14. */
+    static const uint32_t good[] = {300, 3, 1, 70000, 2, 4294967295, 70000, 1, 3};
+    writes(good, 9, 0, 0);
+    uint8_t out[32];
+    memset(out, 0xee, sizeof out);
+    qollqamir_written written = qollqamir_write_settings(good, 9, out, 19);
+    ACCEPTED(written);
+    CHECK(written.len == 19);
+    CHECK(memcmp(out, "\x03\xac\x02\x03\x01\xf0\xa2\x04\x02\xff\xff\xff\xff\x0f\xf0\xa2\x04\x01\x03\xee", 20) == 0);
+    settings(out, written.len, 0, 0);
+    static const struct { size_t at; uint32_t bad; size_t number, place; } faults[] = {
+        {1, 0, 57, 3}, {1, 4, 57, 3}, {2, 2, 58, 4}, {3, 299, 59, 5}, {3, 0, 59, 5}, {4, 5, 57, 8}, {4, 1, 58, 9},
+        {6, 69999, 59, 14}, {7, UINT32_MAX, 57, 17}, {8, 4, 58, 18}, {0, 70001, 59, 6},
+    };
+    for (size_t k = 0; k < sizeof faults / sizeof *faults; k++) {
+        uint32_t rows[9];
+        memcpy(rows, good, sizeof rows);
+        rows[faults[k].at] = faults[k].bad;
+        writes(rows, 9, faults[k].number, faults[k].place);
+        /* 27 comes first, whatever the rows are. */
+        writes(rows, 8, 27, 0);
+        writes(rows, 7, 27, 0);
+    }
+    for (size_t numbers = 0; numbers <= 9; numbers++) {
+        writes(good, numbers, numbers % 3 == 0 ? 0 : 27, 0);
+    }
+    static uint32_t many[3 * 520];
+    for (size_t i = 0; i < 520; i++) {
+        many[3 * i + 1] = 3;
+    }
+    for (size_t numbers = 3 * 511; numbers <= 3 * 514; numbers++) {
+        writes(many, numbers, numbers % 3 != 0 ? 27 : numbers > 3 * 512 ? 56 : 0, 0);
+    }
+}
+
 /* ---- every byte of an answer */
 
-/* The calls. Those up to OPEN_DEFAULT take no edition, nor do those from DXIL_PROGRAM to RTS0_RANGE_ALONE; those on PSV0 data alone stand in
+/* The calls. Those up to OPEN_DEFAULT take no edition, nor do those from DXIL_PROGRAM on but WRITE_PSV0; those on PSV0 data alone stand in
    the order of those on containers, and a call that takes an occurrence follows the one that takes none. */
 enum call {
     TABLE, TABLE_PART, TABLE_PART_OCCURRENCE, KNOWN, OPEN_DEFAULT, PART, PART_OCCURRENCE, PROGRAM,
@@ -1794,14 +2487,16 @@ enum call {
     OPEN, INFO, RESOURCE, ELEMENT, LENGTHS, VIEW, SECTION,
     PSV0_OPEN, PSV0_INFO, PSV0_RESOURCE, PSV0_ELEMENT, PSV0_LENGTHS, PSV0_VIEW, PSV0_SECTION,
     DXIL_PROGRAM, SG1_READ, SG1_ELEMENT, SG1_ELEMENT_ALONE, SG1_NAME,
-    RTS0_READ, RTS0_ITEM, RTS0_ITEM_ALONE, RTS0_RANGE, RTS0_RANGE_ALONE, WRITE_PSV0, ASSEMBLE, CALLS
+    RTS0_READ, RTS0_ITEM, RTS0_ITEM_ALONE, RTS0_RANGE, RTS0_RANGE_ALONE,
+    SETTINGS_READ, SETTINGS_ROW, SETTINGS_VALUE, SETTINGS_ROW_ALONE, WRITE_PSV0, ASSEMBLE, WRITE_SETTINGS, CALLS
 };
 
 /* The greatest refusal number of any call is below the one, the greatest place that is come by below the other. */
-enum { NUMBERS = 53, PLACES = 16 };
+enum { NUMBERS = 61, PLACES = 17 };
 
-/* A call and what it is handed; a signature part's number is its kind, and so is a range's; an occurrence is its number. A writer's byte
-   arguments lie end to end in bytes, and pieces has their lengths. */
+/* A call and what it is handed; a signature part's number is its kind, and so is a range's; an occurrence is its number. A setting's key is
+   its kind, its version its number; a row alone begins at its number, after the version that is its kind. A writer's byte arguments lie end
+   to end in bytes, and pieces has their lengths; rows lie there as numbers. */
 struct question {
     enum call call;
     const uint8_t *bytes;
@@ -1840,6 +2535,7 @@ __attribute__((noinline)) static size_t answer(const struct question *q, uint8_t
         return sizeof a;          \
     }
 #define PIECE(i) b + start(q, i), start(q, i + 1) - start(q, i)
+#define ROWS (const uint32_t *)(const void *)b, n / sizeof(uint32_t)
     switch (q->call) {
     case TABLE: ANSWER(qollqamir_parts, qollqamir_table(b, n))
     case TABLE_PART: ANSWER(qollqamir_found, qollqamir_table_part(b, n, four))
@@ -1880,10 +2576,15 @@ __attribute__((noinline)) static size_t answer(const struct question *q, uint8_t
     case RTS0_ITEM_ALONE: ANSWER(qollqamir_root_record, qollqamir_rts0_item_alone(b, n, i))
     case RTS0_RANGE: ANSWER(qollqamir_range_record, qollqamir_rts0_range(b, n, i, k))
     case RTS0_RANGE_ALONE: ANSWER(qollqamir_range_record, qollqamir_rts0_range_alone(b, n, i, k))
+    case SETTINGS_READ: ANSWER(qollqamir_settings, qollqamir_settings_read(b, n))
+    case SETTINGS_ROW: ANSWER(qollqamir_setting_row, qollqamir_settings_row(b, n, i))
+    case SETTINGS_VALUE: ANSWER(qollqamir_setting, qollqamir_settings_value(b, n, k, (uint32_t)i))
+    case SETTINGS_ROW_ALONE: ANSWER(qollqamir_setting_row_alone, qollqamir_settings_row_alone(b, n, i, k))
     case WRITE_PSV0:
         ANSWER(qollqamir_written, qollqamir_write_psv0(e, PIECE(0), PIECE(1), PIECE(2), PIECE(3), PIECE(4), PIECE(5), q->out, q->room))
     case ASSEMBLE:
         ANSWER(qollqamir_written, qollqamir_assemble(PIECE(0), q->sizes, q->pieces[0] / 4, PIECE(1), PIECE(2), q->out, q->room))
+    case WRITE_SETTINGS: ANSWER(qollqamir_written, qollqamir_write_settings(ROWS, q->out, q->room))
     case CALLS: break;
     }
     return 0;
@@ -1944,13 +2645,42 @@ static void reads_back(const struct question *q, const uint8_t *out, size_t len)
     CHECK(end == len);
 }
 
+/* The numbers that lie in the bytes of a question on rows, and how many. */
+static size_t rows_of(const struct question *q, uint32_t *rows) {
+    size_t numbers = q->len / sizeof *rows;
+    if (numbers > 0) {
+        memcpy(rows, q->bytes, numbers * sizeof *rows);
+    }
+    return numbers;
+}
+
+/* What the rules give for a question on settings files or rows; nothing for any other. */
+static size_t ruled(const struct question *q, uint8_t *to) {
+    uint32_t rows[250];
+#define RULED(type, rule)             \
+    {                                 \
+        type a = rule;                \
+        return put(to, &a, sizeof a); \
+    }
+    switch (q->call) {
+    case SETTINGS_READ: RULED(qollqamir_settings, shown_settings(q->bytes, q->len))
+    case SETTINGS_ROW: RULED(qollqamir_setting_row, shown_row(q->bytes, q->len, q->number))
+    case SETTINGS_VALUE: RULED(qollqamir_setting, shown_value(q->bytes, q->len, q->kind, (uint32_t)q->number))
+    case SETTINGS_ROW_ALONE: RULED(qollqamir_setting_row_alone, shown_row_alone(q->bytes, q->len, q->number, q->kind))
+    case WRITE_SETTINGS: RULED(qollqamir_written, shown_written(rows, rows_of(q, rows), q->room))
+    default: return 0;
+    }
+#undef RULED
+}
+
 /* Asks twice and compares. The second time the stack and the answer's place hold another pattern, and the bytes, the output and the stack
-   are at other addresses: what stood in memory before would differ, and an address too. The bytes stay as they are. Beside a refusal all is
-   0; a refused answer is also compared with the first that has the same call, number and place. An accepted table and an assembled
-   container are checked as a whole. */
+   are at other addresses: what stood in memory before would differ, and an address too. The bytes stay as they are, and so does the output
+   but for a result. Beside a refusal all is 0; a refused answer is also compared with the first that has the same call, number and place.
+   An accepted table and an assembled container are checked as a whole, and every answer on settings files against the rules. */
 static qollqamir_verdict ask(const struct question *question) {
     static const uint8_t patterns[4] = {0x00, 0xa5, 0xff, 0x5a};
-    static uint8_t answers[2][sizeof(qollqamir_parts)], bytes[2][1000], outs[2][1000];
+    static uint8_t answers[2][sizeof(qollqamir_parts)], outs[2][1000], stood[1000];
+    static _Alignas(uint32_t) uint8_t bytes[2][1000];
     struct question copy = *question, *q = &copy;
     size_t len = 0;
     for (size_t i = 0; i < 2; i++) {
@@ -1971,6 +2701,19 @@ static qollqamir_verdict ask(const struct question *question) {
     asked++;
     same("answers", answers[0], answers[1], len);
     same("outputs", outs[0], outs[1], sizeof outs[0]);
+    size_t result = 0;
+    if (q->call >= WRITE_PSV0) {
+        qollqamir_written written;
+        memcpy(&written, answers[0], sizeof written);
+        CHECK(written.len <= q->room);
+        result = written.len;
+    }
+    if (stood[0] == 0) {
+        memset(stood, 0xee, sizeof stood);
+    }
+    same("the output past the result and what stood there", outs[0] + result, stood + result, sizeof stood - result);
+    uint8_t rules[sizeof(qollqamir_setting_row_alone)];
+    same("the answer and the rules", answers[0], rules, ruled(q, rules));
 
     qollqamir_verdict verdict = {0, 0};
     if (q->call == KNOWN) {
@@ -1988,12 +2731,19 @@ static qollqamir_verdict ask(const struct question *question) {
             qollqamir_written written;
             memcpy(&written, answers[0], sizeof written);
             reads_back(q, outs[0], written.len);
+        } else if (q->call == WRITE_SETTINGS) {
+            uint32_t rows[250];
+            uint8_t file[1000];
+            same("the result and the rows", outs[0], file, put_rows(file, rows, rows_of(q, rows)));
         }
         return verdict;
     }
     refused[q->call]++;
     static const uint8_t zeros[sizeof(qollqamir_parts)];
     same("a refused answer and zeros", answers[0] + sizeof verdict, zeros, len - sizeof verdict);
+    if (q->call == SETTINGS_ROW_ALONE && verdict.place >= PLACES) {
+        return verdict; /* Far in the bytes or past them; the rules had its place. */
+    }
     CHECK(verdict.number < NUMBERS && verdict.place < PLACES);
     struct refusal *first = &refusals[q->call][verdict.number][verdict.place];
     if (first->answer_len == 0) {
@@ -2082,6 +2832,32 @@ static const struct question queries[] = {
 };
 enum { QUERIES = sizeof queries / sizeof *queries };
 
+/* What is asked of a settings file. */
+static const struct question settings_queries[] = {
+    {.call = SETTINGS_READ},
+    {.call = SETTINGS_ROW, .number = 0},
+    {.call = SETTINGS_ROW, .number = 1},
+    {.call = SETTINGS_ROW, .number = 2},
+    {.call = SETTINGS_ROW, .number = SIZE_MAX},
+    {.call = SETTINGS_VALUE, .kind = 0, .number = 133},
+    {.call = SETTINGS_VALUE, .kind = 1, .number = 4},
+    {.call = SETTINGS_VALUE, .kind = 1, .number = 5},
+    {.call = SETTINGS_VALUE, .kind = 2, .number = 132},
+    {.call = SETTINGS_VALUE, .kind = 2, .number = UINT32_MAX},
+    {.call = SETTINGS_VALUE, .kind = 3, .number = 133},
+    {.call = SETTINGS_VALUE, .kind = 4, .number = UINT32_MAX},
+    {.call = SETTINGS_ROW_ALONE, .number = 0, .kind = 0},
+    {.call = SETTINGS_ROW_ALONE, .number = 1, .kind = 0},
+    {.call = SETTINGS_ROW_ALONE, .number = 1, .kind = 6},
+    {.call = SETTINGS_ROW_ALONE, .number = 4, .kind = 5},
+    {.call = SETTINGS_ROW_ALONE, .number = 4, .kind = 134},
+    {.call = SETTINGS_ROW_ALONE, .number = 8, .kind = 133},
+    {.call = SETTINGS_ROW_ALONE, .number = 15, .kind = 0},
+    {.call = SETTINGS_ROW_ALONE, .number = 1000000, .kind = 0},
+    {.call = SETTINGS_ROW_ALONE, .number = SIZE_MAX, .kind = UINT32_MAX},
+};
+enum { SETTINGS_QUERIES = sizeof settings_queries / sizeof *settings_queries };
+
 /* A call that takes no occurrence means the first part. */
 static void ask_first(struct question q) {
     uint8_t answers[2][sizeof(qollqamir_found)];
@@ -2134,6 +2910,28 @@ static void ask_rts0(struct question q) {
     }
 }
 
+/* Every query of a settings file. */
+static void ask_settings(struct question file) {
+    for (size_t i = 0; i < SETTINGS_QUERIES; i++) {
+        struct question q = settings_queries[i];
+        q.bytes = file.bytes;
+        q.len = file.len;
+        ask(&q);
+    }
+}
+
+/* The writer of settings files with room to spare, for all, with a byte too little and with none. */
+static void ask_rows(struct question q) {
+    uint32_t rows[250];
+    uint8_t file[1000];
+    size_t len = put_rows(file, rows, rows_of(&q, rows));
+    const size_t rooms[] = {sizeof file, len, len - 1, 0};
+    for (size_t k = 0; k < sizeof rooms / sizeof *rooms; k++) {
+        q.room = rooms[k];
+        ask(&q);
+    }
+}
+
 /* A writer with room for all and with a byte too little, at every edition where it takes one. */
 static void ask_writer(struct question q) {
     for (q.edition = 0; q.edition <= (q.call == WRITE_PSV0 ? 4 : 0); q.edition++) {
@@ -2144,19 +2942,27 @@ static void ask_writer(struct question q) {
     }
 }
 
+/* The bytes are read as a settings file too, whatever they are. */
+static void ask_file(void (*ask_all)(struct question), struct question q) {
+    ask_settings(q);
+    if (ask_all != ask_settings) {
+        ask_all(q);
+    }
+}
+
 /* The bytes, every prefix of them, and the bytes with each one changed in turn. */
 static void around(void (*ask_all)(struct question), struct question q, uint8_t *bytes) {
     static const uint8_t changes[] = {0x01, 0x40, 0x80, 0xff};
     size_t len = q.len;
     q.bytes = bytes;
     for (q.len = 0; q.len < len; q.len++) {
-        ask_all(q);
+        ask_file(ask_all, q);
     }
-    ask_all(q);
+    ask_file(ask_all, q);
     for (size_t i = 0; i < len; i++) {
         for (size_t k = 0; k < sizeof changes; k++) {
             bytes[i] ^= changes[k];
-            ask_all(q);
+            ask_file(ask_all, q);
             bytes[i] ^= changes[k];
         }
     }
@@ -2226,6 +3032,25 @@ static void ask_private(void) {
     }
 }
 
+/* Settings files of up to 16 bytes and rows of such, with every byte changed in turn. */
+static void ask_all_settings(void) {
+    static const struct { const char *bytes; size_t len; } files[] = {
+        {BYTES("\x03\x05\x01\x02\x85\x01\x03\x01\x85\x01\x02\xff\xff\xff\xff\x0f")},
+        {BYTES("\x03\x05\x01\x03\x05\x02\x80\x01\x85\x01\x03\x00")},
+        {BYTES("\x02\xff\xff\xff\xff\x0f\x01\x03\xff\xff\xff\xff\x0f\x03\x01")},
+        {BYTES("\x01\x00\x02\x80\x80\x01")},
+        {BYTES("\x00")},
+    };
+    uint8_t bytes[64];
+    for (size_t k = 0; k < sizeof files / sizeof *files; k++) {
+        around(ask_settings, (struct question){.call = SETTINGS_READ, .len = put(bytes, files[k].bytes, files[k].len)}, bytes);
+    }
+    static const uint32_t rows[][9] = {{5, 1, 2, 133, 3, 1, 133, 2, UINT32_MAX}, {5, 1, 3, 5, 2, 128, 133, 3, 0}};
+    for (size_t k = 0; k < 2; k++) {
+        around(ask_rows, (struct question){.call = WRITE_SETTINGS, .len = put(bytes, rows[k], sizeof rows[k])}, bytes);
+    }
+}
+
 /* Whether a call gave a number, at any place. */
 static bool gave(enum call call, size_t number) {
     for (size_t place = 0; place < PLACES; place++) {
@@ -2283,12 +3108,19 @@ static void test_every_byte(void) {
         around(ask_reader, (struct question){.call = OPEN, .len = n}, bytes);
     }
     ask_private();
+    ask_all_settings();
     /* The calls on parts gave every number that they can and no other; 2 takes a longer file, which test_greatest_length has. */
     for (size_t number = 1; number < NUMBERS; number++) {
         bool in_table = number <= 9 && number != 2, opening = in_table || (number >= 10 && number <= 25);
         CHECK(gave(TABLE, number) == in_table);
         CHECK(gave(TABLE_PART, number) == (in_table || number == 26) && gave(TABLE_PART_OCCURRENCE, number) == (in_table || number == 26));
         CHECK(gave(PART, number) == (opening || number == 26) && gave(PART_OCCURRENCE, number) == (opening || number == 26));
+        /* So did those on settings files; the writer's 56 takes more rows, which test_write_settings has, and its 54 takes 2^32. */
+        bool own = number == 53 || number == 54 || number == 55 || number == 57 || number == 58 || number == 59;
+        bool whole = own || number == 56 || number == 60;
+        CHECK(gave(SETTINGS_READ, number) == whole && gave(SETTINGS_VALUE, number) == whole);
+        CHECK(gave(SETTINGS_ROW, number) == (whole || number == 26) && gave(SETTINGS_ROW_ALONE, number) == own);
+        CHECK(gave(WRITE_SETTINGS, number) == (number == 27 || number == 28 || (number >= 57 && number <= 59)));
     }
     for (int call = 0; call < CALLS; call++) {
         CHECK(accepted[call] > 0 && refused[call] > 0);
@@ -2299,7 +3131,7 @@ static void test_every_byte(void) {
         }
         CHECK(!signature || refusals[call][52][0].answer_len > 0);
     }
-    CHECK(triples >= 1050);
+    CHECK(triples >= 1270);
     printf("c answers: %zu calls made twice; %zu refused answers equal to that of another file, of %zu calls, numbers and places\n", asked,
            paired, triples);
 }
@@ -2332,6 +3164,11 @@ static void test_null(void) {
         verdict = ask(&(struct question){.call = call});
         CHECK(verdict.number == 46 && verdict.place == 0);
     }
+    for (size_t i = 0; i < SETTINGS_QUERIES; i++) {
+        verdict = ask(&settings_queries[i]);
+        CHECK(verdict.number == 55 && verdict.place == (settings_queries[i].call == SETTINGS_ROW_ALONE ? settings_queries[i].number : 0));
+    }
+    ask_rows((struct question){.call = WRITE_SETTINGS});
 
     uint8_t runtime[52] = {0}, out[64];
     const uint8_t *digest = name("0123456789abcdef");
@@ -2361,6 +3198,14 @@ static void test_null(void) {
     written = qollqamir_assemble(name("DXIL"), 4, &size, 1, NULL, 0, digest, 16, out, sizeof out);
     ACCEPTED(written);
     CHECK(written.len == 44 && qollqamir_table_part(out, 44, name("DXIL")).size == 0);
+
+    REFUSED(qollqamir_write_settings(NULL, 0, NULL, 0), 28, 0);
+    written = qollqamir_write_settings(NULL, 0, out, 1);
+    ACCEPTED(written);
+    CHECK(written.len == 1 && out[0] == 0);
+    static const uint32_t row[3] = {1, 1, 1};
+    REFUSED(qollqamir_write_settings(row, 3, NULL, 0), 28, 0);
+    REFUSED(qollqamir_write_settings(row, 2, NULL, 0), 27, 0);
 }
 
 int main(void) {
@@ -2378,6 +3223,13 @@ int main(void) {
     test_signature();
     test_difference();
     test_root();
+    test_settings_numbers();
+    test_settings_count();
+    test_settings_ranges();
+    test_settings_faults();
+    test_settings_values();
+    test_settings_row_alone();
+    test_write_settings();
     test_every_byte();
     test_null();
     printf("c boundary: %d checks passed\n", checks);

@@ -103,3 +103,25 @@ pub unsafe extern "C" fn reference_assemble(
         out,
     ))
 }
+
+/// # Safety
+/// `bytes` points to `len` bytes.
+#[no_mangle]
+pub unsafe extern "C" fn reference_settings(bytes: *const u8, len: usize) -> u8 {
+    number(reference::settings(from_raw_parts(bytes, len)))
+}
+
+/// # Safety
+/// `bytes` points to `len` bytes.
+#[no_mangle]
+pub unsafe extern "C" fn reference_settings_value(bytes: *const u8, len: usize, key: u32, version: u32) -> u8 {
+    number(reference::settings(from_raw_parts(bytes, len)).map(|settings| settings.value(key, version)))
+}
+
+/// # Safety
+/// `rows` points to `rows_len` numbers, `out` to `out_len` bytes.
+#[no_mangle]
+pub unsafe extern "C" fn reference_write_settings(rows: *const u32, rows_len: usize, out: *mut u8, out_len: usize) -> u8 {
+    let out = std::slice::from_raw_parts_mut(out, out_len);
+    number(reference::write_settings(from_raw_parts(rows, rows_len), out))
+}

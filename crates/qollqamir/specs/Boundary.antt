@@ -45,6 +45,13 @@ use Rattle.root_signature_layout.specs.declared.ItemAnswer.{ItemAnswer}
 use Rattle.root_signature_layout.specs.declared.RangeAnswer.{RangeAnswer}
 use Rattle.root_signature_layout.specs.declared.RootSignature.{RootSignature}
 use Rattle.root_signature_report_layout.specs.declared.RootReport.{RootReport}
+use Rattle.settings_layout.specs.declared.RowAlone.{RowAlone}
+use Rattle.settings_layout.specs.declared.RowAnswer.{RowAnswer}
+use Rattle.settings_layout.specs.declared.Setting.{Setting}
+use Rattle.settings_layout.specs.declared.Setting.the-variants.{Set as SettingSet, Unset as NoSetting}
+use Rattle.settings_layout.specs.declared.SettingAnswer.{SettingAnswer}
+use Rattle.settings_layout.specs.declared.Settings.{Settings}
+use Rattle.settings_layout.specs.declared.SettingsWritten.{SettingsWritten}
 use Rattle.signature_layout.specs.Signature.{refusedElement}
 use Rattle.signature_layout.specs.declared.Name.{Name}
 use Rattle.signature_layout.specs.declared.Name.the-variants.{At as NameAt, Unset as NoName}
@@ -64,6 +71,10 @@ use Rattle.qollqamir.specs.declared.CItem.{CItem}
 use Rattle.qollqamir.specs.declared.CRange.{CRange}
 use Rattle.qollqamir.specs.declared.CRoot.{CRoot}
 use Rattle.qollqamir.specs.declared.CRootReport.{CRootReport}
+use Rattle.qollqamir.specs.declared.CSetting.{CSetting}
+use Rattle.qollqamir.specs.declared.CSettings.{CSettings}
+use Rattle.qollqamir.specs.declared.CSettingsRow.{CSettingsRow}
+use Rattle.qollqamir.specs.declared.CSettingsRowAlone.{CSettingsRowAlone}
 use Rattle.qollqamir.specs.declared.CVerdict.{CVerdict}
 use Rattle.qollqamir.specs.declared.CField.{CField}
 use Rattle.qollqamir.specs.declared.CTable.{CTable}
@@ -419,3 +430,26 @@ sectionVerdict s o x = choose (ltb s 6) o (queried o x)
 
 unfoldable pub sectionShown : ℕ → Verdict → ℕ → List ℕ → Value → List ℕ
 sectionShown s o er d x = choose (ltb s 6) (bytesBeside o (handed er d (sectionOf (sectionNumbered s)))) (bytesOf x)
+
+-- ---- settings files
+unfoldable pub cSettings : Settings → CSettings
+cSettings a = record { verdict = cVerdict (a .verdict); rows = a .rows; first = a .first }
+
+unfoldable pub cSettingsRow : RowAnswer → CSettingsRow
+cSettingsRow a =
+    record { verdict = cVerdict (a .verdict); version = a .row .version; key = a .row .key; value = a .row .value }
+
+unfoldable pub cSettingsRowAlone : RowAlone → CSettingsRowAlone
+cSettingsRowAlone a =
+    record { verdict = cVerdict (a .verdict); version = a .row .version; key = a .row .key; value = a .row .value; end = a .end }
+
+-- 1 and the number where the setting is set, 0 and 0 where it is not
+abbrev pub settingField : Setting → CField
+settingField (SettingSet n) = record { set = 1; value = n }
+settingField NoSetting = record { set = 0; value = 0 }
+
+unfoldable pub cSetting : SettingAnswer → CSetting
+cSetting a = record { verdict = cVerdict (a .verdict); setting = settingField (a .setting) }
+
+unfoldable pub cSettingsWritten : SettingsWritten → CWritten
+cSettingsWritten w = record { verdict = cVerdict (w .verdict); len = w .len }

@@ -26,6 +26,12 @@ use root_signature_layout::ItemAnswer;
 use root_signature_layout::RangeAnswer;
 use root_signature_layout::RootSignature;
 use root_signature_report_layout::RootReport;
+use settings_layout::RowAlone;
+use settings_layout::RowAnswer;
+use settings_layout::Setting;
+use settings_layout::SettingAnswer;
+use settings_layout::Settings;
+use settings_layout::SettingsWritten;
 use signature_layout::Name;
 use signature_layout::Signature;
 use signature_layout::SignatureAnswer;
@@ -51,9 +57,11 @@ ghost use Rattle.psv0_layout.specs.Shown.{answered, queried};
 ghost use Rattle.psv0_writer_layout.specs.Answer as writing;
 ghost use Rattle.root_signature_layout.specs.Root.{rootOf, itemOf, itemAloneOf, rangeAnswerOf, rangeAloneOf};
 ghost use Rattle.root_signature_report_layout.specs.Reported.{rootReportOf, itemReportOf, rangeReportOf};
+ghost use Rattle.settings_layout.specs.Given as settingsWriting;
+ghost use Rattle.settings_layout.specs.Shown.{settingsOf, rowAnswerOf, rowAloneOf, settingAnswerOf};
 ghost use Rattle.signature_layout.specs.Signature.{signatureOf, elementOf, aloneOf, viewOf as nameView};
 ghost use Rattle.wire.specs.Number.{u32At};
-ghost use Rattle.qollqamir.specs.Boundary.{cVerdict, cField, cTable, cPart, cOpening, cPsvOpening, cInfo, cResource, cElement, cLengths, isString, pointsNumber, cSpan, cWritten, cAssembly, stagesNumber, cHeader, cProgram, cReport, cSignature, cSignatureReport, nameParts, cSignatureElement, cDifference, partNumbered, noPart, reportNumbered, elementNumbered, differenceNumbered, cRoot, cRootReport, parameterFields, cItem, cRange, viewOf, sectionNumbered, sectionVerdict, sectionShown, CShows};
+ghost use Rattle.qollqamir.specs.Boundary.{cVerdict, cField, cTable, cPart, cOpening, cPsvOpening, cInfo, cResource, cElement, cLengths, isString, pointsNumber, cSpan, cWritten, cAssembly, stagesNumber, cHeader, cProgram, cReport, cSignature, cSignatureReport, nameParts, cSignatureElement, cDifference, partNumbered, noPart, reportNumbered, elementNumbered, differenceNumbered, cRoot, cRootReport, parameterFields, cItem, cRange, cSettings, cSettingsRow, cSettingsRowAlone, settingField, cSetting, cSettingsWritten, viewOf, sectionNumbered, sectionVerdict, sectionShown, CShows};
 
 // A verdict: the refusal's number, 0 where the call accepts, and its place.
 #[repr(C)]
@@ -317,6 +325,40 @@ pub struct CRange {
     pub space: u32,
     pub flags: CField,
     pub offset: usize,
+}
+
+// A settings file: its number of rows, and where the first begins.
+#[repr(C)]
+pub struct CSettings {
+    pub verdict: CVerdict,
+    pub rows: usize,
+    pub first: usize,
+}
+
+// A row of a settings file.
+#[repr(C)]
+pub struct CSettingsRow {
+    pub verdict: CVerdict,
+    pub version: u32,
+    pub key: u32,
+    pub value: usize,
+}
+
+// A row of a settings file by itself, and where it ends.
+#[repr(C)]
+pub struct CSettingsRowAlone {
+    pub verdict: CVerdict,
+    pub version: u32,
+    pub key: u32,
+    pub value: usize,
+    pub end: usize,
+}
+
+// The value of a key at a version.
+#[repr(C)]
+pub struct CSetting {
+    pub verdict: CVerdict,
+    pub setting: CField,
 }
 
 fn c_verdict(v: Verdict) -> CVerdict
@@ -1044,6 +1086,74 @@ fn section_of(section: u32) -> Section
     Section::Masks
 }
 
+fn c_settings(a: Settings) -> CSettings
+    ensures { λ r. ⌜ r ≡ cSettings a ⌝ }
+{
+    let v = a.verdict;
+    CSettings {
+        verdict: c_verdict(v),
+        rows: a.rows,
+        first: a.first,
+    }
+}
+
+fn c_settings_row(a: RowAnswer) -> CSettingsRow
+    ensures { λ r. ⌜ r ≡ cSettingsRow a ⌝ }
+{
+    let v = a.verdict;
+    let x = a.row;
+    CSettingsRow {
+        verdict: c_verdict(v),
+        version: x.version,
+        key: x.key,
+        value: x.value as usize,
+    }
+}
+
+fn c_settings_row_alone(a: RowAlone) -> CSettingsRowAlone
+    ensures { λ r. ⌜ r ≡ cSettingsRowAlone a ⌝ }
+{
+    let v = a.verdict;
+    let x = a.row;
+    CSettingsRowAlone {
+        verdict: c_verdict(v),
+        version: x.version,
+        key: x.key,
+        value: x.value as usize,
+        end: a.end,
+    }
+}
+
+fn setting_field(s: Setting) -> CField
+    ensures { λ r. ⌜ r ≡ settingField s ⌝ }
+{
+    match s {
+        Setting::Set(value) => CField { set: 1, value },
+        Setting::Unset => UNSET,
+    }
+}
+
+fn c_setting(a: SettingAnswer) -> CSetting
+    ensures { λ r. ⌜ r ≡ cSetting a ⌝ }
+{
+    let v = a.verdict;
+    let s = a.setting;
+    CSetting {
+        verdict: c_verdict(v),
+        setting: setting_field(s),
+    }
+}
+
+fn c_settings_written(a: SettingsWritten) -> CWritten
+    ensures { λ r. ⌜ r ≡ cSettingsWritten a ⌝ }
+{
+    let v = a.verdict;
+    CWritten {
+        verdict: c_verdict(v),
+        len: a.len,
+    }
+}
+
 // The part table, 1 to 9.
 #[no_mangle]
 pub extern "C" fn qollqamir_table(b: &[u8]) -> CTable
@@ -1365,6 +1475,38 @@ pub extern "C" fn qollqamir_signature_difference(b: &[u8], edition: usize, part:
     c_difference(signature_report::first_difference(b, edition, part_numbered(part)))
 }
 
+// A settings file: 53 to 60.
+#[no_mangle]
+pub extern "C" fn qollqamir_settings_read(d: &[u8]) -> CSettings
+    ensures { λ r. ⌜ r ≡ cSettings (settingsOf (now (d .entry))) ⌝ }
+{
+    c_settings(settings_reader::read(d))
+}
+
+// Row i of a settings file: 53 to 60, then 26.
+#[no_mangle]
+pub extern "C" fn qollqamir_settings_row(d: &[u8], i: usize) -> CSettingsRow
+    ensures { λ r. ⌜ r ≡ cSettingsRow (rowAnswerOf (now (d .entry)) i) ⌝ }
+{
+    c_settings_row(settings_reader::row(d, i))
+}
+
+// The row at a byte of a settings file by itself, after a row of version last: 53 to 55 and 57 to 59 of its own.
+#[no_mangle]
+pub extern "C" fn qollqamir_settings_row_alone(d: &[u8], at: usize, last: u32) -> CSettingsRowAlone
+    ensures { λ r. ⌜ r ≡ cSettingsRowAlone (rowAloneOf (now (d .entry)) at last) ⌝ }
+{
+    c_settings_row_alone(settings_reader::row_alone(d, at, last))
+}
+
+// The value of a key at a version: 53 to 60; unset where no row tells it.
+#[no_mangle]
+pub extern "C" fn qollqamir_settings_value(d: &[u8], key: u32, version: u32) -> CSetting
+    ensures { λ r. ⌜ r ≡ cSetting (settingAnswerOf (now (d .entry)) key version) ⌝ }
+{
+    c_setting(settings_reader::value(d, key, version))
+}
+
 // The data of a part RTS0 alone: 46 to 51.
 #[no_mangle]
 pub extern "C" fn qollqamir_rts0_read(d: &[u8]) -> CRoot
@@ -1469,4 +1611,13 @@ pub extern "C" fn qollqamir_assemble(
     ensures { λ r. ⌜ now (out .exit) ≡ assembly.output (assembly.given (now (names .entry)) (now (sizes .entry)) (now («data» .entry)) (now (digest .entry))) (now (out .entry)) ⌝ }
 {
     c_assembly(assembler::assemble(names, sizes, data, digest, out))
+}
+
+// Writes a settings file from rows as numbers, three a row.
+#[no_mangle]
+pub extern "C" fn qollqamir_write_settings(rows: &[u32], out: &mut [u8]) -> CWritten
+    ensures { λ r. ⌜ r ≡ cSettingsWritten (settingsWriting.answer (now (rows .entry)) (length (now (out .entry)))) ⌝ }
+    ensures { λ r. ⌜ now (out .exit) ≡ settingsWriting.output (now (rows .entry)) (now (out .entry)) ⌝ }
+{
+    c_settings_written(settings_writer::write(rows, out))
 }

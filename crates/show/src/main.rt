@@ -1,4 +1,5 @@
 // show EDITION FILE: prints all that an opening of a container of at most 65,536 bytes and its queries show, one item a line.
+use arguments::Contents;
 use dxil_report_layout::Stages;
 use part_table_layout::Found;
 use printing::number;
@@ -12,6 +13,7 @@ use root_signature_layout::RootHeader;
 use signature_layout::Name;
 use signature_report_layout::SignaturePart;
 use wire::Verdict;
+use words::Named;
 
 // ---- bytes and values
 
@@ -655,51 +657,16 @@ fn show(b: &[u8], edition: usize) {
     }
 }
 
-// An edition as it is written: digits alone. Any above 3 counts as 4; what is no number is 5.
-fn edition_named(s: &[u8]) -> usize {
-    if s.len() == 0 {
-        return 5;
-    }
-    let mut e: usize = 0;
-    let mut i = 0;
-    while i < s.len() {
-        let c = s[i];
-        if c < b'0' {
-            return 5;
-        }
-        if b'9' < c {
-            return 5;
-        }
-        e = e * 10 + (c - b'0') as usize;
-        if 4 < e {
-            e = 4;
-        }
-        i += 1;
-    }
-    e
-}
-
-fn show_file(path: &[u8], edition: usize) {
-    let fd = os::open_read(path);
-    if fd < 0 {
-        text(b"cannot open\n");
-        return;
-    }
+fn show_file(edition: usize) {
     let mut buffer = io::large_buffer();
-    let got = io::read_full(fd, &mut buffer);
-    // One read more tells the end from a byte too many, and from what opens and cannot be read, as a directory.
-    let mut more = [0u8; 1];
-    let extra = libc::read(fd, &mut more);
-    libc::close(fd);
-    if extra < 0 {
-        text(b"cannot open\n");
-        return;
+    let r = arguments::file(2, &mut buffer);
+    let contents = r.contents;
+    let len = r.len;
+    match contents {
+        Contents::Whole => show(&buffer[..len], edition),
+        Contents::TooLong => text(b"too long\n"),
+        Contents::CannotOpen => text(b"cannot open\n"),
     }
-    if 0 < extra {
-        text(b"too long\n");
-        return;
-    }
-    show(&buffer[..got], edition);
 }
 
 fn usage() {
@@ -712,14 +679,11 @@ fn main() {
         usage();
         return;
     }
-    let mut word = io::buffer();
-    let w = os::arg(1, &mut word);
-    let edition = edition_named(&word[..w]);
-    if 4 < edition {
-        usage();
-        return;
+    let edition = arguments::number(1);
+    match edition {
+        Named::Number(e) => show_file(e as usize),
+        // No edition is so great: 25, as any above 3.
+        Named::Greater => show_file(4),
+        Named::Nothing => usage(),
     }
-    let mut path = io::buffer();
-    let n = os::arg(2, &mut path);
-    show_file(&path[..n], edition);
 }

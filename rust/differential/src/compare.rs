@@ -10,7 +10,7 @@ use reference::{Opening, Program, ProgramReport, Refusal, Text};
 use crate::make::get4;
 use crate::random::Random;
 use crate::strings::{ends_entry_name, Notes, Sections, Way};
-use crate::{entries, roots, signatures};
+use crate::{entries, roots, settings, signatures};
 
 /// A difference, and the bytes it was seen on.
 #[derive(Debug)]
@@ -65,6 +65,11 @@ pub enum Call {
     ItemAlone,
     Rts0Range,
     RangeAlone,
+    Settings,
+    Setting,
+    SettingRow,
+    RowAlone,
+    WriteRows,
 }
 
 /// The numbers of opening a container at an edition, and more.
@@ -79,7 +84,7 @@ const REPORTED: &[u8] = opening_and!(26, 43, 44, 45, 52);
 const ROOTED: &[u8] = opening_and!(26, 46, 47, 48, 49, 50, 51);
 
 /// The calls, and the numbers that each can give.
-pub const CALLS: [(&str, &[u8]); 27] = [
+pub const CALLS: [(&str, &[u8]); 32] = [
     ("table", &[1, 2, 3, 4, 5, 6, 7, 8, 9]),
     ("table part", &[1, 2, 3, 4, 5, 6, 7, 8, 9, 26]),
     ("part", opening_and!(26)),
@@ -107,13 +112,18 @@ pub const CALLS: [(&str, &[u8]); 27] = [
     ("item alone", &[26, 46, 47, 48, 49, 50, 51]),
     ("rts0 range", &[26, 46, 47, 48, 49, 50, 51]),
     ("range alone", &[26, 46, 47, 48, 49, 50, 51]),
+    ("settings", &[53, 54, 55, 56, 57, 58, 59, 60]),
+    ("setting", &[53, 54, 55, 56, 57, 58, 59, 60]),
+    ("setting row", &[26, 53, 54, 55, 56, 57, 58, 59, 60]),
+    ("row alone", &[53, 54, 55, 57, 58, 59]),
+    ("write rows", &[27, 28, 56, 57, 58, 59]),
 ];
 
 /// The greatest number of documents 01 and 02 is below this.
 pub const NUMBERS: usize = 61;
 
 /// The numbers that have a place.
-pub const PLACED: [u8; 10] = [8, 9, 22, 23, 45, 48, 49, 50, 51, 52];
+pub const PLACED: [u8; 17] = [8, 9, 22, 23, 45, 48, 49, 50, 51, 52, 53, 54, 55, 57, 58, 59, 60];
 
 /// So many places of a number are kept: of items by themselves there would be millions.
 const PLACES: usize = 1024;
@@ -330,7 +340,7 @@ pub const EDGES: [&str; 9] = [
 ];
 
 /// How often each call gave each verdict (0: it accepted), and at which places; how often each of `SEEN` came, and of `EDGES` in a
-/// reading and in a writer; what the strings and the tables' entries were.
+/// reading and in a writer; what the strings, the tables' entries and the settings files were.
 pub struct Hits {
     pub counts: [[u64; NUMBERS]; CALLS.len()],
     pub places: [[BTreeSet<usize>; NUMBERS]; CALLS.len()],
@@ -339,6 +349,7 @@ pub struct Hits {
     pub edges_written: [u64; EDGES.len()],
     pub strings: Notes,
     pub entries: entries::Notes,
+    pub settings: settings::Notes,
 }
 
 impl Default for Hits {
@@ -351,6 +362,7 @@ impl Default for Hits {
             edges_written: [0; EDGES.len()],
             strings: Notes::default(),
             entries: entries::Notes::default(),
+            settings: settings::Notes::default(),
         }
     }
 }
@@ -987,7 +999,8 @@ pub fn assemble(
     Ok(made)
 }
 
-fn delivered(
+/// The same whole buffer on both sides: nothing of it changed by a refusal, nor past a result.
+pub fn delivered(
     given: &[u8],
     ours: &[u8],
     theirs: &[u8],

@@ -244,6 +244,7 @@ macro_rules! circumstances {
         const $words: &[(&str, u64)] = &[$(($what, $least),)*];
     };
 }
+pub(crate) use circumstances;
 
 /// Who judged names, or answered a query.
 #[derive(Clone, Copy, Debug)]
@@ -689,10 +690,7 @@ impl Notes {
         by_two(NAMES, &self.names, By::Assembler, missed);
         by_two(DATA, &self.data, By::Assembler, missed);
         by_two(LOOKUPS, &self.lookups, By::Container, missed);
-        for ((what, least), count) in KINDS.iter().zip(self.kinds) {
-            println!("{what}: {count}");
-            at_least(what, count, *least, missed);
-        }
+        each(KINDS, &self.kinds, missed);
         for (what, counts) in SPACES.iter().zip(self.spaces) {
             print!("bytes {what}:");
             for ((len, least), count) in LENGTHS.iter().zip(counts) {
@@ -742,7 +740,15 @@ fn by_two(words: &[(&str, u64)], counts: &[Counts], other: By, missed: &mut Vec<
     }
 }
 
-fn at_least(what: &str, count: u64, least: u64, missed: &mut Vec<String>) {
+/// Prints how often each came.
+pub fn each(words: &[(&str, u64)], counts: &[u64], missed: &mut Vec<String>) {
+    for ((what, least), count) in words.iter().zip(counts) {
+        println!("{what}: {count}");
+        at_least(what, *count, *least, missed);
+    }
+}
+
+pub fn at_least(what: &str, count: u64, least: u64, missed: &mut Vec<String>) {
     if count < least {
         missed.push(format!("{least} times {what}"));
     }

@@ -1,4 +1,4 @@
-//! Holds the compiled library against the independent reader on containers made at random.
+//! Holds the compiled library against the independent reader on containers and settings files made at random.
 //!
 //!     differential [--cases N] [--seed S] [--only CASE]
 //!
@@ -7,10 +7,13 @@
 mod compare;
 mod demands;
 mod entries;
+mod faults;
 mod make;
 mod random;
 mod repeats;
 mod roots;
+mod rows;
+mod settings;
 mod signatures;
 mod strings;
 mod text;
@@ -79,9 +82,13 @@ fn main() -> ExitCode {
         if let Err(mismatch) = longest(&mut done.hits) {
             return report(seed, "the longest inputs", mismatch);
         }
+        if let Err(mismatch) = settings::fixed(seed) {
+            return report(seed, "the settings files of every run", mismatch);
+        }
     }
     for number in numbers {
-        let outcome = catch_unwind(AssertUnwindSafe(|| case(seed, number, &vectors, &mut done)));
+        let both = || case(seed, number, &vectors, &mut done).and_then(|()| settings::case(seed, number, &mut done.hits));
+        let outcome = catch_unwind(AssertUnwindSafe(both));
         let outcome = outcome.unwrap_or_else(|_| Err(Mismatch { what: "a panic".to_string(), bytes: Vec::new() }));
         if let Err(mismatch) = outcome {
             return report(seed, &format!("case {number}"), mismatch);
@@ -160,6 +167,7 @@ fn summary(done: &Done) -> Vec<String> {
     }
     done.hits.strings.summary(&mut missed);
     done.hits.entries.summary(&mut missed);
+    settings::summary(&done.hits, &mut missed);
     println!("containers accepted by readers 0 to 3: {:?}", done.accepted);
     println!("widenings for readers 0 to 3: {:?}", done.widenings);
     println!("round trips: {}, of them from plain form {}", done.round_trips, done.plain);

@@ -2,6 +2,7 @@
 //! of `include/qollqamir.h`; nothing checks that they agree, so the tests look at the last field of each.
 #![allow(unsafe_code, missing_docs)]
 
+use crate::SettingsRow;
 use std::mem::size_of;
 
 /// Declares structs of the header. None has padding: its size is the sum of the sizes of its fields.
@@ -256,6 +257,36 @@ structs! {
         flags: Field,
         offset: usize,
     }
+
+    /// A settings file: its number of rows, and where the first begins.
+    Settings {
+        verdict: Verdict,
+        rows: usize,
+        first: usize,
+    }
+
+    /// A row of a settings file.
+    SettingRow {
+        verdict: Verdict,
+        version: u32,
+        key: u32,
+        value: usize,
+    }
+
+    /// A row of a settings file by itself, and where it ends.
+    SettingRowAlone {
+        verdict: Verdict,
+        version: u32,
+        key: u32,
+        value: usize,
+        end: usize,
+    }
+
+    /// The value of a key at a version.
+    Setting {
+        verdict: Verdict,
+        setting: Field,
+    }
 }
 
 mod archive {
@@ -301,6 +332,10 @@ mod archive {
         pub fn qollqamir_root_signature(bytes: *const u8, len: usize, edition: usize) -> RootReport;
         pub fn qollqamir_root_item(bytes: *const u8, len: usize, edition: usize, i: usize) -> RootRecord;
         pub fn qollqamir_root_range(bytes: *const u8, len: usize, edition: usize, i: usize, j: usize) -> RangeRecord;
+        pub fn qollqamir_settings_read(bytes: *const u8, len: usize) -> Settings;
+        pub fn qollqamir_settings_row(bytes: *const u8, len: usize, i: usize) -> SettingRow;
+        pub fn qollqamir_settings_value(bytes: *const u8, len: usize, key: u32, version: u32) -> Setting;
+        pub fn qollqamir_settings_row_alone(bytes: *const u8, len: usize, at: usize, last: u32) -> SettingRowAlone;
         pub fn qollqamir_write_psv0(
             edition: usize,
             runtime: *const u8,
@@ -330,6 +365,7 @@ mod archive {
             out: *mut u8,
             out_len: usize,
         ) -> Written;
+        pub fn qollqamir_write_settings(rows: *const u32, rows_len: usize, out: *mut u8, out_len: usize) -> Written;
     }
 }
 
@@ -417,6 +453,14 @@ readers! {
     root_item => qollqamir_root_item(edition: usize, i: usize) -> RootRecord;
     /// Range `j` of item `i` of it: those of [`root_signature`], then 26.
     root_range => qollqamir_root_range(edition: usize, i: usize, j: usize) -> RangeRecord;
+    /// A settings file: 53 to 60.
+    settings_read => qollqamir_settings_read() -> Settings;
+    /// Row `i` of it: 53 to 60, 26.
+    settings_row => qollqamir_settings_row(i: usize) -> SettingRow;
+    /// The value of a key at a version: 53 to 60.
+    settings_value => qollqamir_settings_value(key: u32, version: u32) -> Setting;
+    /// The row at a byte by itself, after a row of version `last`: 53 to 55 and 57 to 59 of its own.
+    settings_row_alone => qollqamir_settings_row_alone(at: usize, last: u32) -> SettingRowAlone;
 }
 
 /// The first part with a name, from the table alone: 1 to 9, 26.
@@ -491,4 +535,19 @@ pub fn assemble(names: &[u8], sizes: &[u32], data: &[u8], digest: &[u8], out: &m
             out.len(),
         )
     }
+}
+
+/// Writes a settings file from rows as numbers, three a row: 27, 54, 56 to 59, 28.
+pub fn write_settings(rows: &[u32], out: &mut [u8]) -> Written {
+    // SAFETY: as said above.
+    unsafe { archive::qollqamir_write_settings(rows.as_ptr(), rows.len(), out.as_mut_ptr(), out.len()) }
+}
+
+const _: () = assert!(size_of::<SettingsRow>() == 3 * size_of::<u32>(), "a row is not its three numbers");
+
+/// As [`write_settings`], from whole rows, which are not copied.
+pub fn write_settings_rows(rows: &[SettingsRow], out: &mut [u8]) -> Written {
+    // SAFETY: as said above; a row is its three numbers in order, so these are 3 x rows.len() numbers. They stand in memory, so the
+    // product doesn't wrap.
+    unsafe { archive::qollqamir_write_settings(rows.as_ptr().cast(), 3 * rows.len(), out.as_mut_ptr(), out.len()) }
 }

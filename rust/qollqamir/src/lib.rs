@@ -1,5 +1,5 @@
 //! Safe calls to the proved reader and writer of DirectX shader containers and their PSV0 part, and to the readers of the DXIL part's
-//! header, of the signature parts and of the root signature.
+//! header, of the signature parts and of the root signature; and to the reader and writer of settings files.
 //!
 //! Any bytes get an answer: the value, or a [`Refusal`] with a number of documents 01 and 02 and a place. Views are slices of the bytes
 //! handed in. A value that the file's edition or stage lacks is `None`. A string is a [`Text`]: its bytes, the same as `&str`, and its code
@@ -28,9 +28,11 @@
 
 mod calls;
 mod root;
+mod settings;
 mod signature;
 
 pub use root::{root_signature, rts0_item_alone, rts0_range_alone, RootItem, RootRange, RootSignature};
+pub use settings::{write_settings, Settings, SettingsRow, SettingsRows};
 pub use signature::{first_difference, sg1_element_alone, signature, Elements, Signature, SignatureElement, SignaturePart};
 
 // Nothing in it can be unset, so it is shown as the call gives it.
@@ -47,12 +49,12 @@ pub type Edition = usize;
 /// The edition that [`Container::open_default`] reads as, since none is named: the newest.
 pub const DEFAULT_EDITION: Edition = 3;
 
-/// A refusal: a number of documents 01 and 02, and a place (a part, an element or an item where the number has one, otherwise 0).
+/// A refusal: a number of documents 01 and 02, and a place (a part, an element, an item or a byte where the number has one, otherwise 0).
 #[derive(Clone, Copy, Debug, PartialEq, Eq, Hash)]
 pub struct Refusal {
-    /// 1 to 28, or 40 to 52.
+    /// 1 to 28, or 40 to 60.
     pub number: u8,
-    /// The part, element or item, from 0.
+    /// The part, element, item or byte, from 0.
     pub place: usize,
 }
 
@@ -231,7 +233,7 @@ pub struct ProgramReport<'a> {
 }
 
 fn judged(verdict: raw::Verdict) -> Result<(), Refusal> {
-    match u8::try_from(verdict.number).expect("the numbers are 1 to 28 and 40 to 52") {
+    match u8::try_from(verdict.number).expect("the numbers are 1 to 28 and 40 to 60") {
         0 => Ok(()),
         number => Err(Refusal { number, place: verdict.place }),
     }

@@ -1,5 +1,5 @@
-//! The boxes M and C of document 01 through the safe calls, the program header, the signature parts, the root signature, the strings and
-//! several private parts of document 02, and the last field of every struct.
+//! The boxes M and C of document 01 through the safe calls, the program header, the signature parts, the root signature, the strings,
+//! several private parts and the settings files of document 02, and the last field of every struct.
 
 use qollqamir::*;
 
@@ -900,4 +900,196 @@ fn a_root_signature_is_refused() {
     assert!(RootSignature::read(table_part(&alone[..len], *b"RTS0").unwrap().data).is_ok());
     let bytes = with_part(&psv0_c(52, 8), *b"RTS0", b"short");
     assert_eq!((root_signature(&bytes, 2), root_signature(&bytes, 3)), (refused(46, 0), refused(24, 0)));
+}
+
+fn row(version: u32, key: u32, value: u32) -> SettingsRow {
+    SettingsRow { version, key, value }
+}
+
+/// A number in the groups of a settings file.
+fn groups(mut number: u32) -> Vec<u8> {
+    let mut bytes = vec![];
+    while number >= 0x80 {
+        bytes.push(number as u8 | 0x80);
+        number >>= 7;
+    }
+    bytes.push(number as u8);
+    bytes
+}
+
+/// The settings file of these rows, good or not.
+fn settings_of(rows: &[SettingsRow]) -> Vec<u8> {
+    let numbers = rows.iter().flat_map(|row| [row.version, row.key, row.value]);
+    std::iter::once(rows.len() as u32).chain(numbers).flat_map(groups).collect()
+}
+
+/// The writer writes the file of these rows, with room for it and not with a byte less; it is read back, row by row and as a list.
+fn settings_are_shown(rows: &[SettingsRow]) -> Vec<u8> {
+    let file = settings_of(rows);
+    let mut out = [0xee; Settings::LONGEST + 1];
+    assert_eq!(write_settings(rows, &mut out[..file.len() - 1]), refused(28, 0));
+    assert_eq!(write_settings(rows, &mut []), refused(28, 0));
+    assert!(out.iter().all(|byte| *byte == 0xee));
+    assert_eq!(write_settings(rows, &mut out), Ok(file.len()));
+    assert_eq!(out[..file.len()], file);
+    assert!(out[file.len()..].iter().all(|byte| *byte == 0xee));
+    assert_eq!(write_settings(rows, &mut out[..file.len()]), Ok(file.len()));
+
+    let settings = Settings::read(&file).unwrap();
+    assert_eq!((settings.bytes(), settings.bytes().as_ptr()), (&file[..], file.as_ptr()));
+    assert!(settings.rows().eq(rows.iter().copied()));
+    // The exact length, at each step and past the end.
+    let mut listed = settings.rows();
+    for (i, row) in rows.iter().enumerate() {
+        assert_eq!((listed.len(), listed.size_hint()), (rows.len() - i, (rows.len() - i, Some(rows.len() - i))));
+        assert_eq!((listed.next(), settings.row(i)), (Some(*row), Ok(*row)));
+    }
+    assert_eq!((listed.len(), listed.next(), listed.next(), listed.len()), (0, None, None, 0));
+    for i in [rows.len(), rows.len() + 1, 512, 1 << 32, usize::MAX] {
+        assert_eq!(settings.row(i), refused(26, 0));
+    }
+    // The last row with the key and a version of at most this one.
+    let near = |row: &SettingsRow| [row.version.wrapping_sub(1), row.version, row.version.wrapping_add(1)];
+    for at in rows.iter().flat_map(near).take(60).chain([0, u32::MAX]) {
+        for key in [0, 1, 2, 3, 4, 257, u32::MAX] {
+            let last = rows.iter().rfind(|row| row.key == key && row.version <= at);
+            assert_eq!(settings.value(key, at), last.map(|row| row.value), "{key} {at}");
+        }
+    }
+    file
+}
+
+#[test]
+fn settings_are_written_and_read() {
+    assert_eq!((Settings::LEAST_EDITION, Settings::GREATEST_LENGTH, Settings::PRIVATE_ALLOWED), (1, 2, 3));
+    assert_eq!(settings_are_shown(&[]), [0]);
+    let rows = [row(300, 3, 1), row(70_000, 2, u32::MAX), row(70_000, 1, 3), row(70_000, 1, 0), row(u32::MAX, 3, 0)];
+    let file = settings_are_shown(&rows);
+    assert_eq!(file[..14], *b"\x05\xac\x02\x03\x01\xf0\xa2\x04\x02\xff\xff\xff\xff\x0f");
+    let settings = Settings::read(&file).unwrap();
+    assert_eq!((settings.value(3, 299), settings.value(3, 300)), (None, Some(1)));
+    assert_eq!((settings.value(3, u32::MAX - 1), settings.value(3, u32::MAX)), (Some(1), Some(0)));
+    assert_eq!((settings.value(1, 69_999), settings.value(1, 70_000)), (None, Some(0)));
+    assert_eq!((settings.value(2, 69_999), settings.value(2, 70_000)), (None, Some(u32::MAX)));
+    assert_eq!((settings.value(0, 70_000), settings.value(4, 70_000)), (None, None));
+    // What is handed out outlives the settings.
+    let listed = Settings::read(&file).unwrap().rows();
+    assert_eq!(listed.collect::<Vec<_>>(), rows);
+
+    // The last fields of the structs, and nothing beside a refusal.
+    let read = raw::settings_read(&file);
+    assert_eq!((read.rows, read.first), (5, 1));
+    let raw::SettingRow { version, key, value, .. } = raw::settings_row(&file, 1);
+    assert_eq!((version, key, value), (70_000, 2, u32::MAX as usize));
+    let raw::SettingRowAlone { version, key, value, end, .. } = raw::settings_row_alone(&file, 5, 300);
+    assert_eq!((version, key, value, end), (70_000, 2, u32::MAX as usize, 14));
+    let setting = raw::settings_value(&file, 2, 70_000).setting;
+    assert_eq!((setting.set, setting.value), (1, u32::MAX));
+    let none = |number, place| raw::SettingRowAlone { verdict: raw::Verdict { number, place }, version: 0, key: 0, value: 0, end: 0 };
+    assert_eq!(raw::settings_row_alone(&file, 5, 70_001), none(59, 5));
+    assert_eq!(raw::settings_row_alone(&file, 8, 0), none(57, 9));
+    for at in [file.len(), file.len() + 1, 1 << 32, usize::MAX] {
+        assert_eq!(raw::settings_row_alone(&file, at, 0), none(55, at));
+    }
+    // Unset, whatever other rows have.
+    let unset = raw::settings_value(b"\x02\x05\x02\x07\x09\x01\x03", 1, 8);
+    assert_eq!((unset.verdict.number, unset.setting.set, unset.setting.value), (0, 0, 0));
+}
+
+#[test]
+fn settings_up_to_the_greatest_number_of_rows() {
+    for count in [1, 2, 127, 128, 511, 512] {
+        let shortest: Vec<_> = (0..count).map(|i| row(0, 1 + i % 3, i % 2)).collect();
+        let longest: Vec<_> = (0..count).map(|i| row(u32::MAX - 600 + i, 2, u32::MAX - i)).collect();
+        settings_are_shown(&shortest);
+        let file = settings_are_shown(&longest);
+        assert_eq!(file.len() == Settings::LONGEST, count as usize == Settings::MOST_ROWS);
+        assert_eq!(raw::settings_read(&file).first, if count < 128 { 1 } else { 2 });
+    }
+    let mut out = [0xee; 6000];
+    let mut rows = vec![row(0, 3, 0); 513];
+    assert_eq!(write_settings(&rows, &mut out), refused(56, 0));
+    assert_eq!(Settings::read(&settings_of(&rows)), refused(56, 0));
+    assert_eq!(Settings::read(b"\x81\x04"), refused(56, 0));
+    assert_eq!(Settings::read(b"\x80\x04"), refused(55, 2));
+    // A fault in them comes after the count; in the last of 512 it doesn't.
+    rows[511].key = 4;
+    assert_eq!(write_settings(&rows, &mut out), refused(56, 0));
+    assert_eq!(write_settings(&rows[..512], &mut out), refused(57, 2 + 3 * 511 + 1));
+    assert_eq!(out, [0xee; 6000]);
+}
+
+#[test]
+fn settings_are_refused() {
+    let refuses = |file: &[u8], number, place| {
+        assert_eq!(Settings::read(file), refused(number, place), "{file:x?}");
+        // Beside the refusal nothing is shown.
+        let verdict = raw::Verdict { number: number.into(), place };
+        assert_eq!(raw::settings_read(file), raw::Settings { verdict, rows: 0, first: 0 });
+        for i in [0, 1, usize::MAX] {
+            assert_eq!(raw::settings_row(file, i), raw::SettingRow { verdict, version: 0, key: 0, value: 0 });
+        }
+        for key in 0..=4 {
+            assert_eq!(raw::settings_value(file, key, u32::MAX), raw::Setting { verdict, setting: raw::Field { set: 0, value: 0 } });
+        }
+    };
+    // A number at each place: long, too large, cut.
+    for before in [&b""[..], b"\x01", b"\x01\x05", b"\x01\x05\x02", b"\x02\x05\x02\x07", b"\x02\x05\x02\x07\x85\x01\x03"] {
+        let with = |form: &[u8], after: &[u8]| [before, form, after].concat();
+        for after in [&b""[..], b"\x00", b"\x80", b"\x02\x07"] {
+            for form in [&b"\x80\x00"[..], b"\xff\x00", b"\x81\x80\x00", b"\x80\x80\x80\x00", b"\xff\xff\xff\xff\x00"] {
+                refuses(&with(form, after), 53, before.len());
+            }
+            for form in [b"\x80\x80\x80\x80\x10", b"\xff\xff\xff\xff\x7f", b"\x80\x80\x80\x80\x80", b"\xff\xff\xff\xff\x8f"] {
+                refuses(&with(form, after), 54, before.len());
+            }
+        }
+        for form in [&b""[..], b"\x80", b"\xff\xff", b"\x80\x80\x80", b"\xff\xff\xff\xff"] {
+            refuses(&with(form, b""), 55, before.len());
+        }
+    }
+    refuses(b"\x00\x00", 60, 1);
+    refuses(b"\x01\x05\x01\x03\x80", 60, 4);
+    // The earlier place: 58 before 59, 57 before 58, 59 before 57 and 60.
+    refuses(b"\x02\x05\x01\x04\x04\x01\x03", 58, 3);
+    refuses(b"\x01\x05\x04\x80\x00", 57, 2);
+    refuses(b"\x02\x05\x01\x03\x04\x04\x03\x00", 59, 4);
+
+    // Rows that are not good, with the place that the number has in the file; the writer leaves the output.
+    let good = [row(300, 3, 1), row(70_000, 2, u32::MAX), row(70_000, 1, 3)];
+    settings_are_shown(&good);
+    let faults = [
+        (0, row(300, 0, 1), 57, 3),
+        (0, row(300, 4, 1), 57, 3),
+        (0, row(300, 3, 2), 58, 4),
+        (1, row(299, 2, 0), 59, 5),
+        (1, row(299, 4, 0), 59, 5),
+        (1, row(300, 257, 0), 57, 7),
+        (2, row(69_999, 1, 3), 59, 14),
+        (2, row(70_000, 1, 4), 58, 18),
+        (2, row(70_000, 1, 256), 58, 18),
+        (2, row(70_000, 3, u32::MAX), 58, 18),
+    ];
+    for (i, bad, number, place) in faults {
+        let mut rows = good;
+        rows[i] = bad;
+        refuses(&settings_of(&rows), number, place);
+        let mut out = [0xee; 64];
+        assert_eq!(write_settings(&rows, &mut out), refused(number, place));
+        assert_eq!(write_settings(&rows, &mut []), refused(number, place));
+        assert_eq!(raw::write_settings_rows(&rows, &mut out).len, 0);
+        assert_eq!(out, [0xee; 64]);
+    }
+
+    // Numbers that aren't whole rows, which the safe call can't be handed.
+    let numbers = [5, 1, 3, 5, 4];
+    let mut out = [0xee; 64];
+    for len in [1, 2, 4, 5] {
+        let written = raw::write_settings(&numbers[..len], &mut out);
+        assert_eq!((written.verdict, written.len), (raw::Verdict { number: 27, place: 0 }, 0));
+    }
+    assert_eq!(out, [0xee; 64]);
+    let written = raw::write_settings(&numbers[..3], &mut out);
+    assert_eq!((written.verdict, written.len), (raw::Verdict { number: 0, place: 0 }, 4));
+    assert_eq!(out[..5], *b"\x01\x05\x01\x03\xee");
 }

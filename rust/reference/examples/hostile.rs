@@ -24,7 +24,7 @@ const NUMBERS: [u8; 22] =
 type Parts = Vec<([u8; 4], Vec<u8>)>;
 
 fn main() {
-    let Some((directory, count)) = directory_and_count("hostile") else {
+    let Some((directory, count)) = directory_and_count("hostile", 3000) else {
         return;
     };
     let mut random = Random(0x5eed_0f0d_dba1_1abe);

@@ -16,7 +16,7 @@ use reference::{find_occurrence, signature_report, SignaturePart};
 use std::collections::{BTreeMap, BTreeSet};
 
 fn main() {
-    let Some((directory, count)) = directory_and_count("samples") else {
+    let Some((directory, count)) = directory_and_count("samples", 3000) else {
         return;
     };
     let mut random = Random(0x1357_9bdf_2468_ace0);

@@ -1,8 +1,8 @@
-//! A reader and writer of DirectX containers and their PSV0 part, and a reader
-//! of the DXIL part's header, of the signature parts and of the root signature,
-//! written from documents 000, 001 and 01 and requests 1 to 3 and 5 to 8 of 02
-//! alone. It is a second opinion: every rule stands here as directly as it can be
-//! said, so that another reader can be held against it.
+//! A reader and writer of DirectX containers and their PSV0 part, a reader of the
+//! DXIL part's header, of the signature parts and of the root signature, and a
+//! reader and writer of settings files, written from documents 000, 001 and 01 and
+//! requests 1 to 3 and 5 to 9 of 02 alone. It is a second opinion: every rule stands
+//! here as directly as it can be said, so that another reader can be held against it.
 //!
 //! * [`table`] reads the part table (refusals 1 to 9), [`table_part`] and
 //!   [`table_part_occurrence`] one part of it (26), [`after_last_part`] what follows.
@@ -22,6 +22,9 @@
 //!   has the form in which the writer would write it.
 //! * [`show`] prints all that an opening and the reports show, and [`inspect`]
 //!   what the small program does: the part table, or the refusal.
+//! * [`settings`] reads a settings file (refusals 53 to 60) and gives [`Settings`],
+//!   whose methods are the queries (26), [`write_settings`] writes one, and
+//!   [`show_settings`] prints one with its values at a version.
 
 #![forbid(unsafe_code)]
 // Sizes are judged with the words of the papers: `% 4`, `(v + 7) / 8`.
@@ -31,6 +34,7 @@ mod inspect;
 mod program;
 mod psv0;
 mod root;
+mod settings;
 mod show;
 mod signature;
 mod table;
@@ -46,6 +50,7 @@ pub use psv0::{
 pub use root::{
     root_item, root_range, root_report, root_signature, RootItem, RootRange, RootSignature,
 };
+pub use settings::{settings, show_settings, write_settings, Settings, SettingsRow};
 pub use show::show;
 pub use signature::{
     first_difference, signature, signature_element, signature_report, Signature, SignatureElement,
@@ -86,7 +91,8 @@ pub(crate) const LEAST_RECORD: usize = 16;
 pub(crate) const LONG_RESOURCE: usize = 24;
 
 /// The answer to bytes, queries or sections that break a rule: the number in
-/// the table of refusals, and the place (a part, an element or an item, otherwise 0).
+/// the table of refusals, and the place (a part, an element or an item, in a settings
+/// file a byte, otherwise 0).
 #[derive(Clone, Copy, Debug, PartialEq, Eq, Hash)]
 pub struct Refusal {
     pub number: u8,
@@ -106,7 +112,7 @@ pub(crate) fn refusal(number: u8) -> Refusal {
     Refusal { number, place: 0 }
 }
 
-/// A refusal at a part, element or item.
+/// A refusal at a part, element, item or byte.
 pub(crate) fn refusal_at(number: u8, place: usize) -> Refusal {
     Refusal { number, place }
 }

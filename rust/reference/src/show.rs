@@ -258,7 +258,7 @@ pub(crate) fn part_line(part: &Part) -> String {
 }
 
 /// A number or other text, or `unset`.
-fn value<T: std::fmt::Display>(number: Option<T>) -> String {
+pub(crate) fn value<T: std::fmt::Display>(number: Option<T>) -> String {
     match number {
         Some(number) => number.to_string(),
         None => String::from("unset"),

@@ -159,7 +159,7 @@ fn put_number(made: &mut Vec<u8>, number: usize) {
 }
 
 /// Copies the result to the front of `out`, or refuses (28) if it is longer.
-fn deliver(made: &[u8], out: &mut [u8]) -> Result<usize, Refusal> {
+pub(crate) fn deliver(made: &[u8], out: &mut [u8]) -> Result<usize, Refusal> {
     match out.get_mut(..made.len()) {
         None => Err(refusal(28)),
         Some(front) => {

@@ -1,10 +1,11 @@
 //! The lines of `show`, and the program around them.
 
 mod common;
+#[path = "common/programs.rs"]
+mod programs;
 use common::*;
+use programs::*;
 use reference::show;
-use std::path::PathBuf;
-use std::process::Command;
 
 const UNSET_MASKS: &str = "mask 0 unset
 mask 1 unset
@@ -341,33 +342,8 @@ fn refusals_are_one_line() {
     assert_eq!(show(&bytes, 0), "refused 8 1\n");
 }
 
-/// A file of the given bytes, removed again at the end.
-struct Temporary(PathBuf);
-
-impl Temporary {
-    fn new(name: &str, bytes: &[u8]) -> Temporary {
-        let directory = PathBuf::from(env!("CARGO_TARGET_TMPDIR"));
-        let path = directory.join(format!("{name}-{}", std::process::id()));
-        std::fs::write(&path, bytes).unwrap();
-        Temporary(path)
-    }
-
-    fn path(&self) -> &str {
-        self.0.to_str().unwrap()
-    }
-}
-
-impl Drop for Temporary {
-    fn drop(&mut self) {
-        let _ = std::fs::remove_file(&self.0);
-    }
-}
-
 fn run(arguments: &[&str]) -> (String, i32) {
-    let program = env!("CARGO_BIN_EXE_reference-show");
-    let output = Command::new(program).args(arguments).output().unwrap();
-    assert!(output.stderr.is_empty());
-    (String::from_utf8(output.stdout).unwrap(), output.status.code().unwrap())
+    run_program(env!("CARGO_BIN_EXE_reference-show"), arguments)
 }
 
 #[test]

@@ -1,6 +1,8 @@
-//! Builders for containers and PSV0 data, right and wrong, and a small
-//! generator of repeatable numbers.
+//! Builders for containers, PSV0 data and settings files, right and wrong, and a
+//! small generator of repeatable numbers.
 #![allow(dead_code)]
+
+pub mod settings;
 
 use reference::{Part, Refusal, Text};
 use std::ops::RangeInclusive;
@@ -552,13 +554,13 @@ pub fn damage(random: &mut Random, bytes: &mut Vec<u8>) {
     }
 }
 
-/// The words of an example that writes containers: a directory, which is made, and
-/// how many (3,000 where it isn't said). None, and a line, where they are others.
-pub fn directory_and_count(example: &str) -> Option<(PathBuf, usize)> {
+/// The words of an example that writes files: a directory, which is made, and how
+/// many (`default` where it isn't said). None, and a line, where they are others.
+pub fn directory_and_count(example: &str, default: usize) -> Option<(PathBuf, usize)> {
     let mut words = std::env::args_os().skip(1);
     let directory = words.next().map(PathBuf::from);
     let count = match words.next() {
-        None => Some(3000),
+        None => Some(default),
         Some(count) => count.to_str().and_then(|count| count.parse().ok()),
     };
     let (Some(directory), Some(count), None) = (directory, count, words.next()) else {

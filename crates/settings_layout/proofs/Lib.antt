@@ -1,0 +1,10 @@
+pub mod Boxes
+pub mod Groupings
+pub mod Places
+pub mod Read
+pub mod RoundTrips
+pub mod GivenNumbers
+pub mod GivenRows
+pub mod History
+pub mod Values
+pub mod Listing
