@@ -30,6 +30,8 @@ uint8_t reference_assemble(const uint8_t *, const uint32_t *, size_t, const uint
 uint8_t reference_settings(const uint8_t *, size_t);
 uint8_t reference_settings_value(const uint8_t *, size_t, uint32_t, uint32_t);
 uint8_t reference_write_settings(const uint32_t *, size_t, uint8_t *, size_t);
+void *reference_figures_start(size_t);
+uint8_t reference_figures_add(void *, const uint8_t *, size_t);
 uint32_t pass_bytewise(const uint8_t *, size_t);
 uint32_t pass_vectorized(const uint8_t *, size_t);
 }
@@ -864,6 +866,41 @@ static void settings() {
     }
 }
 
+// Figures: one container more beside a bare opening, and beside the lookup of PSV0 by which it is opened. The figures are carried from call to
+// call, and started again when they are full.
+static void figures(const std::filesystem::path &folder) {
+    std::vector<std::pair<std::string, Bytes>> files;
+    for (auto name : {"VertexShader_YUV", "PixelShader_Colors", "RootSig_Color"})
+        files.push_back({name, load(folder / ("sdl_D3D12_" + std::string(name) + ".dxbc"))});
+    files.push_back({"31 bytes", Bytes(31)});
+    files.push_back({"1 MB of strings", with_psv0(psv0_of(0, 1, 0, Bytes(1 << 20, 0), 1))});
+    printf("\nfigures, ns a call\n");
+    printf("%-24s %11s %11s %11s %11s %9s\n", "", "open", "part PSV0", "add", "ref. add", "/open");
+    const uint8_t *name = reinterpret_cast<const uint8_t *>("PSV0");
+    for (auto &[title, b] : files) {
+        auto kept = qollqamir_figures_start(1);
+        void *other = reference_figures_start(1);
+        auto add = [&, &b = b] {
+            auto a = qollqamir_figures_add(kept, b.data(), b.size());
+            kept = a.answer == QOLLQAMIR_COUNTED ? a.figures : qollqamir_figures_start(1);
+            return a.verdict;
+        };
+        require(add().number == qollqamir_open(b.data(), b.size(), 1).verdict.number && kept.opened == 1, title);
+        require(reference_figures_add(other, b.data(), b.size()) == qollqamir_open(b.data(), b.size(), 1).verdict.number, title);
+        auto t = measure({open_at(b, 1), repeat([&, &b = b] { return qollqamir_part(b.data(), b.size(), 1, name); }), repeat(add),
+                          repeat([&, &b = b] { return reference_figures_add(other, b.data(), b.size()); })});
+        printf("%-24s", title.c_str());
+        for (size_t k = 0; k < 4; k++)
+            cell(t[k]);
+        ratio(t.ratio(2, 0));
+        printf("\n");
+    }
+    auto one = qollqamir_figures_start(1), two = one;
+    one = qollqamir_figures_add(one, files[0].second.data(), files[0].second.size()).figures;
+    auto t = measure({repeat([&] { return qollqamir_figures_join(two, one); }), repeat([&] { return two = one; })});
+    printf("%-24s %11.1f, copying figures (%zu bytes) %.1f\n", "join", t[0], sizeof one, t[1]);
+}
+
 // What handing back 1,944 bytes costs: the table of a file that the first check refuses, beside a call that hands back 40.
 static void handing_back(const std::filesystem::path &shader) {
     Bytes b = load(shader);
@@ -1018,4 +1055,5 @@ int main(int argc, char **argv) {
     utf8();
     roots();
     settings();
+    figures(folder);
 }

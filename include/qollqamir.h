@@ -1,12 +1,13 @@
-/* Qollqamir: a reader and writer of DirectX shader containers, and of the settings files that say what is taken in.
+/* Qollqamir: a reader and writer of DirectX shader containers, and of the settings files that say what is taken in; and figures over a list of
+   containers.
 
-   Every call takes any bytes and answers. Its answer begins with a verdict: number 0 where the call accepts, else a refusal number of
-   documents 01 and 02 with its place. Beside a refusal every number is 0, no field is set, and a span has start and length 0.
+   Every call takes any bytes and answers. But for figures, its answer begins with a verdict: number 0 where the call accepts, else a refusal
+   number of documents 01 and 02 with its place. Beside a refusal every number is 0, no field is set, and a span has start and length 0.
    Every string that is shown is well-formed UTF-8 (table 3-7 of the Unicode Standard); its length doesn't count the zero after it.
    A pointer is followed by its length and may be null where that is 0, "sizes", "rows" and "out" too; a name has no length and points to four
    bytes. Only "out" is written; it must not overlap the others, and nothing else may change the bytes or "out" during a call.
    Calls share nothing and may run on any number of threads at once, on the same bytes too.
-   An edition is 0 to 3; any other gives refusal 25. */
+   An edition is 0 to 3; an opening at any other gives refusal 25. */
 #ifndef QOLLQAMIR_H
 #define QOLLQAMIR_H
 
@@ -311,6 +312,36 @@ typedef struct {
     qollqamir_field setting;
 } qollqamir_setting;
 
+/* Figures over a list of containers: the edition that they were started at, the sum of the accepted lengths, how many were opened, accepted
+   and refused, and the counts by refusal number, by the file's edition and by stage; unset counts the accepted ones of which the reading at
+   the figures' edition shows no stage. An opening gives 1 to 25, so the refusals 0, 26 and 27 stay 0: they are there for the struct to have no
+   padding. Plain data that a caller may keep, copy and compare. */
+typedef struct {
+    size_t edition;
+    uint64_t bytes;
+    uint16_t opened;
+    uint16_t accepted;
+    uint16_t refused;
+    uint16_t refusals[28];
+    uint16_t editions[4];
+    uint16_t stages[16];
+    uint16_t unset;
+} qollqamir_figures;
+
+/* Figures with one container more. The answer is QOLLQAMIR_COUNTED, with the verdict of its opening, or QOLLQAMIR_FULL, with the figures as
+   they were and a verdict of zeros, which then says nothing: look at the answer first. */
+typedef struct {
+    size_t answer;
+    qollqamir_verdict verdict;
+    qollqamir_figures figures;
+} qollqamir_figures_added;
+
+/* Two figures in one. The answer is QOLLQAMIR_JOINED; or, with the first figures as they were, QOLLQAMIR_FULL or QOLLQAMIR_OTHER_EDITION. */
+typedef struct {
+    size_t answer;
+    qollqamir_figures figures;
+} qollqamir_figures_joined;
+
 /* Every byte of an answer is a byte of a field, so an answer can be written out, compared or hashed as it stands. A struct that is added
    gets its line here too. */
 #ifdef __cplusplus
@@ -375,6 +406,17 @@ QOLLQAMIR_NO_PADDING(qollqamir_setting_row_alone,
                      QOLLQAMIR_SIZE(qollqamir_setting_row_alone, key) + QOLLQAMIR_SIZE(qollqamir_setting_row_alone, value) +
                      QOLLQAMIR_SIZE(qollqamir_setting_row_alone, end));
 QOLLQAMIR_NO_PADDING(qollqamir_setting, QOLLQAMIR_SIZE(qollqamir_setting, verdict) + QOLLQAMIR_SIZE(qollqamir_setting, setting));
+QOLLQAMIR_NO_PADDING(qollqamir_figures,
+                     QOLLQAMIR_SIZE(qollqamir_figures, edition) + QOLLQAMIR_SIZE(qollqamir_figures, bytes) +
+                     QOLLQAMIR_SIZE(qollqamir_figures, opened) + QOLLQAMIR_SIZE(qollqamir_figures, accepted) +
+                     QOLLQAMIR_SIZE(qollqamir_figures, refused) + QOLLQAMIR_SIZE(qollqamir_figures, refusals) +
+                     QOLLQAMIR_SIZE(qollqamir_figures, editions) + QOLLQAMIR_SIZE(qollqamir_figures, stages) +
+                     QOLLQAMIR_SIZE(qollqamir_figures, unset));
+QOLLQAMIR_NO_PADDING(qollqamir_figures_added,
+                     QOLLQAMIR_SIZE(qollqamir_figures_added, answer) + QOLLQAMIR_SIZE(qollqamir_figures_added, verdict) +
+                     QOLLQAMIR_SIZE(qollqamir_figures_added, figures));
+QOLLQAMIR_NO_PADDING(qollqamir_figures_joined,
+                     QOLLQAMIR_SIZE(qollqamir_figures_joined, answer) + QOLLQAMIR_SIZE(qollqamir_figures_joined, figures));
 QOLLQAMIR_NO_PADDING(qollqamir_program_header,
                      QOLLQAMIR_SIZE(qollqamir_program_header, version_major) + QOLLQAMIR_SIZE(qollqamir_program_header, version_minor) +
                      QOLLQAMIR_SIZE(qollqamir_program_header, stage) + QOLLQAMIR_SIZE(qollqamir_program_header, words) +
@@ -474,6 +516,17 @@ enum {
     QOLLQAMIR_SRV = 3,
     QOLLQAMIR_UAV = 4
 };
+
+/* What adding to figures and joining them answer. */
+enum {
+    QOLLQAMIR_COUNTED = 0,
+    QOLLQAMIR_JOINED = 0,
+    QOLLQAMIR_FULL = 1,
+    QOLLQAMIR_OTHER_EDITION = 2
+};
+
+/* The most containers that figures count. */
+enum { QOLLQAMIR_MOST_OPENED = 65535 };
 
 /* The part table alone: 1 to 9. */
 qollqamir_parts qollqamir_table(const uint8_t *bytes, size_t len);
@@ -603,6 +656,21 @@ qollqamir_setting qollqamir_settings_value(const uint8_t *bytes, size_t len, uin
    version 0 is row 0, and the row at the end of row i after its version is row i + 1: so it is listed by as many calls as it has rows, each of
    which takes the same short time. */
 qollqamir_setting_row_alone qollqamir_settings_row_alone(const uint8_t *bytes, size_t len, size_t at, uint32_t last);
+
+/* Figures of no container, at an edition, at which every container that is added is opened. At an edition above 3 each counts as refused
+   with 25. */
+qollqamir_figures qollqamir_figures_start(size_t edition);
+
+/* One container more: it costs one opening, and is counted by what that gives. With QOLLQAMIR_MOST_OPENED opened, nothing changes and the
+   answer is QOLLQAMIR_FULL. Of figures that were started and added to, accepted and refused sum to opened, the counts by refusal number to
+   refused, those by edition to accepted, and so do those by stage with unset; the order of the containers doesn't matter. Figures that someone
+   made up get an answer too: a count stays at 65535, and the sum of the lengths at 18446744073709551615. */
+qollqamir_figures_added qollqamir_figures_add(qollqamir_figures figures, const uint8_t *bytes, size_t len);
+
+/* Two figures of the same edition joined: those of the one list of containers after the other, so that a list can be split over machines.
+   Nothing changes where their editions differ (QOLLQAMIR_OTHER_EDITION, looked at first) and where the two have more than
+   QOLLQAMIR_MOST_OPENED opened (QOLLQAMIR_FULL). Made-up figures as above. */
+qollqamir_figures_joined qollqamir_figures_join(qollqamir_figures figures, qollqamir_figures more);
 
 /* Writes PSV0 data in plain form: 25; 27; 2; 15 to 24 as reader 3 would answer; 28. On a refusal out keeps every byte; bytes past the
    result keep their contents. */

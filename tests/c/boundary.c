@@ -1,6 +1,6 @@
 /* Calls the library through its C header: the boxes M and C of document 01, the last field of every struct, the three writers, several
-   private parts, the program header, the signature parts, the root signature and the settings files of document 02, every byte of the
-   answers of every call, null pointers. */
+   private parts, the program header, the signature parts, the root signature, the settings files and the figures of document 02, every byte
+   of the answers of every call, null pointers. */
 #include "qollqamir.h"
 
 #include <stdio.h>
@@ -917,10 +917,13 @@ static void test_assembled_private(void) {
 #undef ASSEMBLE
 }
 
+/* The greatest length, and room for one byte more. */
+enum { GREATEST = 16777216 };
+static uint8_t greatest[GREATEST + 1];
+
 /* The greatest length, which a gap takes up, and one more, which every call on a container's parts refuses. */
 static void test_greatest_length(void) {
-    enum { GREATEST = 16777216 };
-    static uint8_t bytes[GREATEST + 1];
+    uint8_t *bytes = greatest;
     static const struct entry far[2] = {{"PRIV", 0, 40, 1, 0, "a"}, {"PRIV", 16777159, 16777208, 0, 1, ""}};
     size_t len = lay_out(bytes, far, 2, 0);
     CHECK(len == GREATEST);
@@ -2477,10 +2480,432 @@ static void test_write_settings(void) {
     }
 }
 
+/* ---- figures */
+
+/* The counts of figures stand one after the other, from opened to unset; the number of one among them. */
+enum { COUNTS = 52 };
+#define COUNT(field) ((offsetof(qollqamir_figures, field) - offsetof(qollqamir_figures, opened)) / sizeof(uint16_t))
+
+static uint16_t *counts(qollqamir_figures *figures) {
+    return (uint16_t *)(void *)((uint8_t *)figures + offsetof(qollqamir_figures, opened));
+}
+
+/* The sum, or the most where it would be above that. */
+static uint64_t sum_up_to(uint64_t most, uint64_t a, uint64_t b) { return b > most - a ? most : a + b; }
+
+static void one_more(uint16_t *count) { *count = (uint16_t)sum_up_to(UINT16_MAX, *count, 1); }
+
+/* What the rules give for one container more, by what the calls on it alone show. */
+static qollqamir_figures_added shown_added(qollqamir_figures figures, const uint8_t *bytes, size_t len) {
+    if (figures.opened == QOLLQAMIR_MOST_OPENED) {
+        return (qollqamir_figures_added){QOLLQAMIR_FULL, {0, 0}, figures};
+    }
+    qollqamir_opening opening = qollqamir_open(bytes, len, figures.edition);
+    qollqamir_field stage = qollqamir_runtime_info(bytes, len, figures.edition).stage;
+    one_more(&figures.opened);
+    if (opening.verdict.number != 0) {
+        one_more(&figures.refused);
+        one_more(&figures.refusals[opening.verdict.number]);
+    } else {
+        one_more(&figures.accepted);
+        one_more(&figures.editions[opening.file_edition]);
+        one_more(stage.set == 1 ? &figures.stages[stage.value] : &figures.unset);
+        figures.bytes = sum_up_to(UINT64_MAX, figures.bytes, len);
+    }
+    return (qollqamir_figures_added){QOLLQAMIR_COUNTED, opening.verdict, figures};
+}
+
+static qollqamir_figures_joined shown_joined(qollqamir_figures figures, qollqamir_figures more) {
+    if (figures.edition != more.edition) {
+        return (qollqamir_figures_joined){QOLLQAMIR_OTHER_EDITION, figures};
+    }
+    if (figures.opened + more.opened > QOLLQAMIR_MOST_OPENED) {
+        return (qollqamir_figures_joined){QOLLQAMIR_FULL, figures};
+    }
+    figures.bytes = sum_up_to(UINT64_MAX, figures.bytes, more.bytes);
+    for (size_t k = 0; k < COUNTS; k++) {
+        counts(&figures)[k] = (uint16_t)sum_up_to(UINT16_MAX, counts(&figures)[k], counts(&more)[k]);
+    }
+    return (qollqamir_figures_joined){QOLLQAMIR_JOINED, figures};
+}
+
+/* Both calls: by the rules, and what the caller holds stays. */
+static qollqamir_figures_added add(qollqamir_figures figures, const uint8_t *bytes, size_t len) {
+    qollqamir_figures held = figures;
+    qollqamir_figures_added added = qollqamir_figures_add(held, bytes, len);
+    SAME(qollqamir_figures, held, figures);
+    SAME(qollqamir_figures_added, added, shown_added(figures, bytes, len));
+    return added;
+}
+
+static qollqamir_figures_joined join(qollqamir_figures figures, qollqamir_figures more) {
+    qollqamir_figures held[2] = {figures, more};
+    qollqamir_figures_joined joined = qollqamir_figures_join(held[0], held[1]);
+    SAME(qollqamir_figures, held[0], figures);
+    SAME(qollqamir_figures, held[1], more);
+    SAME(qollqamir_figures_joined, joined, shown_joined(figures, more));
+    return joined;
+}
+
+/* Figures that no list gives, every count another number, in the ways 0 and 1; any two of one edition join. */
+static qollqamir_figures made_up(size_t edition, uint16_t way) {
+    qollqamir_figures figures = {.edition = edition, .bytes = 0x0123456789abcdef + way};
+    for (uint16_t k = 0; k < COUNTS; k++) {
+        counts(&figures)[k] = (uint16_t)(0x1101 + 0x0203 * k + way * (0x0102 + k));
+    }
+    return figures;
+}
+
+/* A container by itself gives these figures, and raises made-up ones by them, up to the greatest number of each count and of the sum. */
+static void counts_as(const uint8_t *bytes, size_t len, qollqamir_figures one) {
+    SAME(qollqamir_figures, add(qollqamir_figures_start(one.edition), bytes, len).figures, one);
+    for (size_t k = COUNT(accepted); k < COUNTS; k++) {
+        for (size_t number = 65533; number <= 65535; number++) {
+            qollqamir_figures figures = made_up(one.edition, 0), after;
+            counts(&figures)[k] = (uint16_t)number;
+            after = add(figures, bytes, len).figures;
+            CHECK(counts(&after)[k] == (number == 65535 ? number : number + counts(&one)[k]));
+        }
+    }
+    const uint64_t rooms[] = {0, 1, len - 1, len, len + 1, UINT64_MAX};
+    for (size_t k = 0; k < sizeof rooms / sizeof *rooms; k++) {
+        qollqamir_figures figures = made_up(one.edition, 0);
+        figures.bytes = UINT64_MAX - rooms[k];
+        CHECK(add(figures, bytes, len).figures.bytes == (one.bytes > rooms[k] ? UINT64_MAX : figures.bytes + one.bytes));
+    }
+}
+
+/* Editions to count at, in order: two above 3 are two editions. */
+static const size_t figures_editions[] = {0, 1, 2, 3, 4, 5, 256, (size_t)1 << 32, SIZE_MAX};
+enum { FIGURES_EDITIONS = sizeof figures_editions / sizeof *figures_editions };
+
+/* PSV0 data with a runtime record of s bytes, more than 24, a number where edition 1 has the stage, and four empty strings. */
+static size_t box_stage(uint8_t *out, size_t s, uint8_t stage) {
+    memset(out, 0, s + 20);
+    put32(out, (uint32_t)s);
+    out[4 + 24] = stage;
+    put32(out + 4 + s + 4, 4);
+    return s + 20;
+}
+
+/* A container with a number put in. */
+static size_t changed(uint8_t *bytes, size_t len, size_t at, uint32_t number) {
+    put32(bytes + at, number);
+    return len;
+}
+
+/* Container i of a list whose figures are worked out below. */
+enum { WORKED = 13 };
+static size_t worked(uint8_t *out, size_t i) {
+    uint8_t psv0[256];
+    switch (i) {
+    case 0: return shader(out, psv0, box_m(psv0, 24, 24));     /* 92 bytes, edition 0 */
+    case 1: return shader(out, psv0, box_c(psv0, 52, 1));      /* 136, edition 3, stage 5 */
+    case 2: return shader(out, psv0, box_c(psv0, 52, 8));      /* the same; 24 at edition 3 */
+    case 3: return 0;                                          /* 1 */
+    case 4: return changed(out, worked(out, 0), 36, 51);       /* 92; 8 at part 1 */
+    case 5: return shader(out, psv0, box_s(psv0));             /* 220, edition 3, stage 13 */
+    case 6: return shader(out, psv0, box_stage(psv0, 36, 0));  /* 116, edition 1, stage 0 */
+    case 7: return shader(out, psv0, box_stage(psv0, 48, 15)); /* 128, edition 2, stage 15 */
+    case 8: return shader(out, psv0, box_stage(psv0, 36, 16)); /* 116, edition 1; 15 but at edition 0 */
+    case 9: return shader(out, psv0, box_c(psv0, 56, 1));      /* 140, edition 3, stage 5 */
+    case 10: return lay_out(out, two, 4, 2);                   /* 134, edition 0 */
+    case 11: return changed(out, worked(out, 5), 188, 8);      /* 220, edition 3; 22 at element 3 but at edition 0 */
+    default: return shader(out, psv0, box_stage(psv0, 32, 5)); /* 112, edition 0, where the 5 is no stage */
+    }
+}
+
+/* What opening each of them at the editions 0 to 3 gives; and the figures then. */
+static const qollqamir_verdict worked_verdicts[4][WORKED] = {
+    {[3] = {1, 0}, [4] = {8, 1}},
+    {[3] = {1, 0}, [4] = {8, 1}, [8] = {15, 0}, [11] = {22, 3}},
+    {[3] = {1, 0}, [4] = {8, 1}, [8] = {15, 0}, [11] = {22, 3}},
+    {[2] = {24, 0}, [3] = {1, 0}, [4] = {8, 1}, [8] = {15, 0}, [11] = {22, 3}},
+};
+static const qollqamir_figures worked_figures[4] = {
+    {.edition = 0, .bytes = 1550, .opened = 13, .accepted = 11, .refused = 2, .refusals = {[1] = 1, [8] = 1},
+     .editions = {3, 2, 1, 5}, .unset = 11},
+    {.edition = 1, .bytes = 1214, .opened = 13, .accepted = 9, .refused = 4, .refusals = {[1] = 1, [8] = 1, [15] = 1, [22] = 1},
+     .editions = {3, 1, 1, 4}, .stages = {[0] = 1, [5] = 3, [13] = 1, [15] = 1}, .unset = 3},
+    {.edition = 2, .bytes = 1214, .opened = 13, .accepted = 9, .refused = 4, .refusals = {[1] = 1, [8] = 1, [15] = 1, [22] = 1},
+     .editions = {3, 1, 1, 4}, .stages = {[0] = 1, [5] = 3, [13] = 1, [15] = 1}, .unset = 3},
+    {.edition = 3, .bytes = 1078, .opened = 13, .accepted = 8, .refused = 5,
+     .refusals = {[1] = 1, [8] = 1, [15] = 1, [22] = 1, [24] = 1},
+     .editions = {3, 1, 1, 3}, .stages = {[0] = 1, [5] = 2, [13] = 1, [15] = 1}, .unset = 3},
+};
+
+/* The figures of so many containers of the list from one on, the first again after the last. */
+static qollqamir_figures figures_of(size_t edition, size_t from, size_t count) {
+    qollqamir_figures figures = qollqamir_figures_start(edition);
+    for (size_t i = from; i < from + count; i++) {
+        uint8_t bytes[256];
+        size_t len = worked(bytes, i % WORKED);
+        qollqamir_verdict expected = edition > 3 ? (qollqamir_verdict){25, 0} : worked_verdicts[edition][i % WORKED];
+        qollqamir_figures_added added = add(figures, bytes, len);
+        CHECK(added.answer == QOLLQAMIR_COUNTED && added.figures.opened == i - from + 1);
+        REFUSED(added, expected.number, expected.place);
+        figures = added.figures;
+    }
+    return figures;
+}
+
+static void test_figures(void) {
+    CHECK(COUNT(accepted) == 1 && COUNT(unset) == COUNTS - 1 && sizeof(qollqamir_figures) == 16 + 2 * COUNTS);
+    CHECK(QOLLQAMIR_MOST_OPENED == 65535 && QOLLQAMIR_COUNTED == 0 && QOLLQAMIR_JOINED == 0);
+    CHECK(QOLLQAMIR_FULL == 1 && QOLLQAMIR_OTHER_EDITION == 2);
+    for (size_t e = 0; e < FIGURES_EDITIONS; e++) {
+        size_t edition = figures_editions[e];
+        SAME(qollqamir_figures, qollqamir_figures_start(edition), ((qollqamir_figures){.edition = edition}));
+        qollqamir_figures expected = {.edition = edition, .opened = WORKED, .refused = WORKED, .refusals = {[25] = WORKED}};
+        if (edition <= 3) {
+            expected = worked_figures[edition];
+        }
+        /* In any order, and split in two. */
+        for (size_t from = 0; from < WORKED; from++) {
+            SAME(qollqamir_figures, figures_of(edition, from, WORKED), expected);
+            qollqamir_figures_joined joined = join(figures_of(edition, 0, from), figures_of(edition, from, WORKED - from));
+            CHECK(joined.answer == QOLLQAMIR_JOINED);
+            SAME(qollqamir_figures, joined.figures, expected);
+        }
+    }
+    /* A null pointer with length 0 is no container, and at edition 4 it isn't looked at. */
+    qollqamir_figures_added added = add(qollqamir_figures_start(1), NULL, 0);
+    CHECK(added.answer == QOLLQAMIR_COUNTED && added.figures.refusals[1] == 1 && added.figures.refused == 1);
+    REFUSED(added, 1, 0);
+    added = add(qollqamir_figures_start(4), NULL, 0);
+    CHECK(added.answer == QOLLQAMIR_COUNTED && added.figures.refusals[25] == 1 && added.figures.refusals[1] == 0);
+    REFUSED(added, 25, 0);
+    counts_as(NULL, 0, (qollqamir_figures){.edition = 4, .opened = 1, .refused = 1, .refusals = {[25] = 1}});
+}
+
+/* Every stage in a file of every edition, each at every edition: the file's edition is counted, the stage is that of the reading. */
+static void test_figures_stages(void) {
+    static const struct { size_t s, edition; } sizes[] = {{28, 0}, {32, 0}, {36, 1}, {44, 1}, {48, 2}, {52, 3}, {56, 3}, {100, 3}};
+    for (size_t edition = 0; edition <= 3; edition++) {
+        qollqamir_figures all = qollqamir_figures_start(edition);
+        for (size_t k = 0; k < sizeof sizes / sizeof *sizes; k++) {
+            for (uint8_t stage = 0; stage < 16; stage++) {
+                uint8_t psv0[128], bytes[192];
+                size_t len = shader(bytes, psv0, box_stage(psv0, sizes[k].s, stage));
+                CHECK(len == 80 + sizes[k].s);
+                qollqamir_figures expected = {.edition = edition, .bytes = len, .opened = 1, .accepted = 1};
+                expected.editions[sizes[k].edition] = 1;
+                *(edition == 0 || sizes[k].edition == 0 ? &expected.unset : &expected.stages[stage]) = 1;
+                counts_as(bytes, len, expected);
+                all = add(all, bytes, len).figures;
+            }
+        }
+        /* 80 x 8 + 396 bytes for each of 16 stages. */
+        qollqamir_figures expected = {.edition = edition, .bytes = 16576, .opened = 128, .accepted = 128, .editions = {32, 32, 16, 48}};
+        for (size_t stage = 0; stage < 16; stage++) {
+            expected.stages[stage] = edition == 0 ? 0 : 6;
+        }
+        expected.unset = edition == 0 ? 128 : 32;
+        SAME(qollqamir_figures, all, expected);
+    }
+}
+
+/* A number put into the container of box S, and what reader 3 then gives. */
+static const struct { size_t at; uint32_t put; size_t number, place; } faults_in_s[] = {
+    {0, 0, 3, 0}, {20, 2, 4, 0}, {24, 221, 5, 0}, {28, 97, 6, 0}, {28, 96, 7, 0}, {36, 51, 8, 1}, {52, 0x4c495844, 9, 1}, {40, 0, 10, 0},
+    {52, 0, 11, 0}, {60, 26, 12, 0}, {60, 400, 13, 0}, {116, 1, 14, 0}, {88, 16, 15, 0}, {88, 0x20d, 16, 0}, {96, 0x100, 17, 0},
+    {120, 7, 18, 0}, {132, 1000, 19, 0}, {136, 15, 20, 0}, {88, 0x1010d, 21, 0}, {188, 8, 22, 3}, {212, 1, 23, 4}, {112, 8, 24, 0},
+};
+enum { FAULTS_IN_S = sizeof faults_in_s / sizeof *faults_in_s };
+
+/* Box M with bytes after it up to the greatest length. */
+static void box_longest(void) {
+    static const struct entry m[2] = {{"DXIL", 0, 40, 4, 0, "code"}, {"PSV0", 0, 52, 32, 0, plain}};
+    CHECK(lay_out(greatest, m, 2, GREATEST - 92) == GREATEST);
+}
+
+/* What such a container counts as at an edition: 15 to 23 are judged from edition 1 on, 24 at 3. */
+static qollqamir_figures one_with_fault(size_t edition, size_t number) {
+    qollqamir_figures one = {.edition = edition, .opened = 1};
+    if (number < 15 || (edition >= 1 && number < 24) || edition == 3) {
+        one.refused = 1;
+        one.refusals[number] = 1;
+    } else {
+        one.bytes = 220;
+        one.accepted = 1;
+        one.editions[3] = 1;
+        *(edition == 0 ? &one.unset : &one.stages[13]) = 1;
+    }
+    return one;
+}
+
+/* Each refusal number by itself and then all of them: 22 faults, 31 bytes, the greatest length and one byte more. */
+static void test_figures_refusals(void) {
+    static const qollqamir_figures totals[4] = {
+        {.edition = 0, .bytes = GREATEST + 2200, .opened = 25, .accepted = 11, .refused = 14, .editions = {1, 0, 0, 10}, .unset = 11},
+        {.edition = 1, .bytes = GREATEST + 220, .opened = 25, .accepted = 2, .refused = 23, .editions = {1, 0, 0, 1}, .stages = {[13] = 1},
+         .unset = 1},
+        {.edition = 2, .bytes = GREATEST + 220, .opened = 25, .accepted = 2, .refused = 23, .editions = {1, 0, 0, 1}, .stages = {[13] = 1},
+         .unset = 1},
+        {.edition = 3, .bytes = GREATEST, .opened = 25, .accepted = 1, .refused = 24, .editions = {1}, .unset = 1},
+    };
+    box_longest();
+    for (size_t edition = 0; edition <= 3; edition++) {
+        qollqamir_figures all = qollqamir_figures_start(edition);
+        for (size_t k = 0; k < FAULTS_IN_S; k++) {
+            uint8_t bytes[256];
+            size_t len = changed(bytes, worked(bytes, 5), faults_in_s[k].at, faults_in_s[k].put);
+            qollqamir_figures one = one_with_fault(edition, faults_in_s[k].number);
+            counts_as(bytes, len, one);
+            qollqamir_figures_added added = add(all, bytes, len);
+            CHECK(added.answer == QOLLQAMIR_COUNTED);
+            REFUSED(added, one.refused == 1 ? faults_in_s[k].number : 0, one.refused == 1 ? faults_in_s[k].place : 0);
+            all = added.figures;
+        }
+        counts_as(greatest, 31, one_with_fault(edition, 1));
+        counts_as(greatest, GREATEST + 1, one_with_fault(edition, 2));
+        counts_as(greatest, GREATEST,
+                  (qollqamir_figures){.edition = edition, .bytes = GREATEST, .opened = 1, .accepted = 1, .editions = {1}, .unset = 1});
+        all = add(all, greatest, 31).figures;
+        all = add(all, greatest, GREATEST).figures;
+        qollqamir_figures_added added = add(all, greatest, GREATEST + 1);
+        REFUSED(added, 2, 0);
+        /* The numbers from 1 on, once each. */
+        qollqamir_figures expected = totals[edition];
+        for (size_t number = 1; number <= expected.refused; number++) {
+            expected.refusals[number] = 1;
+        }
+        SAME(qollqamir_figures, added.figures, expected);
+    }
+}
+
+/* 65,537 additions of the list over and over, of the greatest length and of nothing: the last two change nothing. */
+static void test_figures_most(void) {
+    box_longest();
+    qollqamir_figures figures[3] = {qollqamir_figures_start(1), qollqamir_figures_start(3), qollqamir_figures_start(0)};
+    for (size_t i = 1; i <= 65537; i++) {
+        uint8_t bytes[256];
+        const uint8_t *const next[3] = {bytes, greatest, NULL};
+        const size_t lengths[3] = {worked(bytes, (i - 1) % WORKED), GREATEST, 0};
+        for (int k = 0; k < 3; k++) {
+            qollqamir_figures_added added = add(figures[k], next[k], lengths[k]);
+            if (i <= 65535) {
+                CHECK(added.answer == QOLLQAMIR_COUNTED && added.figures.opened == i);
+            } else {
+                CHECK(added.answer == QOLLQAMIR_FULL);
+                REFUSED(added, 0, 0);
+                SAME(qollqamir_figures, added.figures, figures[k]);
+            }
+            figures[k] = added.figures;
+        }
+    }
+    /* The list 5041 times and two containers of it more. */
+    SAME(qollqamir_figures, figures[0],
+         ((qollqamir_figures){.edition = 1, .bytes = 6120002, .opened = 65535, .accepted = 45371, .refused = 20164,
+                              .refusals = {[1] = 5041, [8] = 5041, [15] = 5041, [22] = 5041}, .editions = {15124, 5041, 5041, 20165},
+                              .stages = {[0] = 5041, [5] = 15124, [13] = 5041, [15] = 5041}, .unset = 15124}));
+    SAME(qollqamir_figures, figures[1],
+         ((qollqamir_figures){.edition = 3, .bytes = 1099494850560, .opened = 65535, .accepted = 65535, .editions = {65535},
+                              .unset = 65535}));
+    SAME(qollqamir_figures, figures[2], ((qollqamir_figures){.opened = 65535, .refused = 65535, .refusals = {[1] = 65535}}));
+}
+
+/* Made-up figures near the most, at every edition: the number opened alone decides. */
+static void test_figures_full(void) {
+    for (size_t e = 0; e < FIGURES_EDITIONS; e++) {
+        for (size_t i = 0; i < WORKED; i++) {
+            uint8_t bytes[256];
+            size_t len = worked(bytes, i);
+            qollqamir_verdict verdict = qollqamir_open(bytes, len, figures_editions[e]).verdict;
+            qollqamir_figures figures = made_up(figures_editions[e], 0);
+            for (size_t opened = 65533; opened <= 65535; opened++) {
+                figures.opened = (uint16_t)opened;
+                qollqamir_figures_added added = add(figures, bytes, len);
+                CHECK(added.answer == (opened < 65535 ? QOLLQAMIR_COUNTED : QOLLQAMIR_FULL));
+                REFUSED(added, opened < 65535 ? verdict.number : 0, opened < 65535 ? verdict.place : 0);
+                CHECK(added.figures.opened == (opened < 65535 ? opened + 1 : 65535));
+                CHECK((memcmp(&added.figures, &figures, sizeof figures) == 0) == (opened == 65535));
+                /* What an opening never gives is kept. */
+                CHECK(added.figures.refusals[0] == figures.refusals[0] && added.figures.refusals[26] == figures.refusals[26]);
+                CHECK(added.figures.refusals[27] == figures.refusals[27] && added.figures.edition == figures.edition);
+            }
+            figures = qollqamir_figures_start(figures_editions[e]);
+            figures.opened = 65535;
+            CHECK(add(figures, bytes, len).answer == QOLLQAMIR_FULL);
+            memset(counts(&figures), 0xff, COUNTS * sizeof(uint16_t));
+            figures.opened = 65534;
+            CHECK(add(figures, bytes, len).answer == QOLLQAMIR_COUNTED);
+        }
+    }
+}
+
+/* Which figures join: the editions are looked at first, then the sum of the numbers opened. */
+static void test_figures_join(void) {
+    static const struct { uint16_t opened, more; size_t answer; } pairs[] = {
+        {0, 0, QOLLQAMIR_JOINED}, {1, 1, QOLLQAMIR_JOINED}, {0, 65535, QOLLQAMIR_JOINED}, {65535, 0, QOLLQAMIR_JOINED},
+        {1, 65534, QOLLQAMIR_JOINED}, {65534, 1, QOLLQAMIR_JOINED}, {32767, 32768, QOLLQAMIR_JOINED}, {32768, 32767, QOLLQAMIR_JOINED},
+        {1, 65535, QOLLQAMIR_FULL}, {65535, 1, QOLLQAMIR_FULL}, {2, 65534, QOLLQAMIR_FULL}, {65534, 2, QOLLQAMIR_FULL},
+        {32768, 32768, QOLLQAMIR_FULL}, {65535, 65535, QOLLQAMIR_FULL},
+    };
+    for (size_t p = 0; p < sizeof pairs / sizeof *pairs; p++) {
+        for (size_t e = 0; e < FIGURES_EDITIONS * FIGURES_EDITIONS; e++) {
+            qollqamir_figures figures = made_up(figures_editions[e / FIGURES_EDITIONS], 0);
+            qollqamir_figures more = made_up(figures_editions[e % FIGURES_EDITIONS], 1);
+            figures.opened = pairs[p].opened;
+            more.opened = pairs[p].more;
+            qollqamir_figures_joined joined = join(figures, more);
+            CHECK(joined.answer == (figures.edition != more.edition ? QOLLQAMIR_OTHER_EDITION : pairs[p].answer));
+            if (joined.answer != QOLLQAMIR_JOINED) {
+                SAME(qollqamir_figures, joined.figures, figures);
+            } else {
+                CHECK(joined.figures.opened == pairs[p].opened + pairs[p].more);
+            }
+        }
+    }
+    /* Every count is summed, those that an opening never raises too. */
+    qollqamir_figures figures = made_up(3, 0), more = made_up(3, 1), both = join(figures, more).figures;
+    CHECK(both.edition == 3 && both.bytes == 0x02468acf13579bdf);
+    for (size_t k = 0; k < COUNTS; k++) {
+        CHECK(counts(&both)[k] == 2 * (0x1101 + 0x0203 * k) + 0x0102 + k);
+    }
+    /* The worked list twice, at edition 3, and nothing more. */
+    SAME(qollqamir_figures, join(worked_figures[3], worked_figures[3]).figures,
+         ((qollqamir_figures){.edition = 3, .bytes = 2156, .opened = 26, .accepted = 16, .refused = 10,
+                              .refusals = {[1] = 2, [8] = 2, [15] = 2, [22] = 2, [24] = 2}, .editions = {6, 2, 2, 6},
+                              .stages = {[0] = 2, [5] = 4, [13] = 2, [15] = 2}, .unset = 6}));
+    SAME(qollqamir_figures, join(worked_figures[1], qollqamir_figures_start(1)).figures, worked_figures[1]);
+    SAME(qollqamir_figures, join(qollqamir_figures_start(1), worked_figures[1]).figures, worked_figures[1]);
+}
+
+/* Every count, and the sum of the lengths, up to its greatest and past it. */
+static void test_figures_join_stays(void) {
+    static const uint16_t pairs[][3] = {
+        {65535, 0, 65535}, {0, 65535, 65535}, {65534, 1, 65535}, {1, 65534, 65535}, {65533, 1, 65534}, {65535, 1, 65535}, {1, 65535, 65535},
+        {65534, 2, 65535}, {32768, 32768, 65535}, {32767, 32768, 65535}, {65535, 65535, 65535}, {255, 1, 256},
+    };
+    for (size_t p = 0; p < sizeof pairs / sizeof *pairs; p++) {
+        for (size_t k = COUNT(accepted); k < COUNTS; k++) {
+            qollqamir_figures figures = made_up(2, 0), more = made_up(2, 1), both;
+            counts(&figures)[k] = pairs[p][0];
+            counts(&more)[k] = pairs[p][1];
+            both = join(figures, more).figures;
+            CHECK(counts(&both)[k] == pairs[p][2]);
+        }
+    }
+    static const uint64_t sums[][3] = {
+        {UINT64_MAX, 0, UINT64_MAX}, {0, UINT64_MAX, UINT64_MAX}, {UINT64_MAX, 1, UINT64_MAX}, {1, UINT64_MAX, UINT64_MAX},
+        {UINT64_MAX - 1, 1, UINT64_MAX}, {UINT64_MAX - 2, 1, UINT64_MAX - 1}, {UINT64_MAX - 1, 2, UINT64_MAX},
+        {(uint64_t)1 << 63, (uint64_t)1 << 63, UINT64_MAX}, {((uint64_t)1 << 63) - 1, (uint64_t)1 << 63, UINT64_MAX},
+        {UINT64_MAX, UINT64_MAX, UINT64_MAX}, {UINT32_MAX, 1, (uint64_t)1 << 32}, {65535, 1, 65536},
+    };
+    for (size_t p = 0; p < sizeof sums / sizeof *sums; p++) {
+        qollqamir_figures figures = made_up(0, 0), more = made_up(0, 1);
+        figures.bytes = sums[p][0];
+        more.bytes = sums[p][1];
+        CHECK(join(figures, more).figures.bytes == sums[p][2]);
+    }
+}
+
 /* ---- every byte of an answer */
 
-/* The calls. Those up to OPEN_DEFAULT take no edition, nor do those from DXIL_PROGRAM on but WRITE_PSV0; those on PSV0 data alone stand in
-   the order of those on containers, and a call that takes an occurrence follows the one that takes none. */
+/* The calls. Those up to OPEN_DEFAULT take no edition, nor do those from DXIL_PROGRAM on but WRITE_PSV0 and FIGURES_START; those on PSV0
+   data alone stand in the order of those on containers, and a call that takes an occurrence follows the one that takes none. The answers of
+   those from CALLS on don't begin with a verdict. */
 enum call {
     TABLE, TABLE_PART, TABLE_PART_OCCURRENCE, KNOWN, OPEN_DEFAULT, PART, PART_OCCURRENCE, PROGRAM,
     SIGNATURE, SIGNATURE_ELEMENT, SIGNATURE_NAME, SIGNATURE_DIFFERENCE, ROOT, ROOT_ITEM, ROOT_RANGE,
@@ -2488,7 +2913,8 @@ enum call {
     PSV0_OPEN, PSV0_INFO, PSV0_RESOURCE, PSV0_ELEMENT, PSV0_LENGTHS, PSV0_VIEW, PSV0_SECTION,
     DXIL_PROGRAM, SG1_READ, SG1_ELEMENT, SG1_ELEMENT_ALONE, SG1_NAME,
     RTS0_READ, RTS0_ITEM, RTS0_ITEM_ALONE, RTS0_RANGE, RTS0_RANGE_ALONE,
-    SETTINGS_READ, SETTINGS_ROW, SETTINGS_VALUE, SETTINGS_ROW_ALONE, WRITE_PSV0, ASSEMBLE, WRITE_SETTINGS, CALLS
+    SETTINGS_READ, SETTINGS_ROW, SETTINGS_VALUE, SETTINGS_ROW_ALONE, WRITE_PSV0, ASSEMBLE, WRITE_SETTINGS, CALLS,
+    FIGURES_START = CALLS, FIGURES_ADD, FIGURES_JOIN
 };
 
 /* The greatest refusal number of any call is below the one, the greatest place that is come by below the other. */
@@ -2496,7 +2922,7 @@ enum { NUMBERS = 61, PLACES = 17 };
 
 /* A call and what it is handed; a signature part's number is its kind, and so is a range's; an occurrence is its number. A setting's key is
    its kind, its version its number; a row alone begins at its number, after the version that is its kind. A writer's byte arguments lie end
-   to end in bytes, and pieces has their lengths; rows lie there as numbers. */
+   to end in bytes, and pieces has their lengths; rows lie there as numbers. Figures are two, of which joining alone takes the second. */
 struct question {
     enum call call;
     const uint8_t *bytes;
@@ -2508,6 +2934,7 @@ struct question {
     const uint32_t *sizes;
     uint8_t *out;
     size_t room;
+    const qollqamir_figures *figures;
 };
 
 /* Where a writer's argument i starts; the last ones have less or nothing where bytes are cut short. */
@@ -2585,7 +3012,9 @@ __attribute__((noinline)) static size_t answer(const struct question *q, uint8_t
     case ASSEMBLE:
         ANSWER(qollqamir_written, qollqamir_assemble(PIECE(0), q->sizes, q->pieces[0] / 4, PIECE(1), PIECE(2), q->out, q->room))
     case WRITE_SETTINGS: ANSWER(qollqamir_written, qollqamir_write_settings(ROWS, q->out, q->room))
-    case CALLS: break;
+    case FIGURES_START: ANSWER(qollqamir_figures, qollqamir_figures_start(e))
+    case FIGURES_ADD: ANSWER(qollqamir_figures_added, qollqamir_figures_add(q->figures[0], b, n))
+    case FIGURES_JOIN: ANSWER(qollqamir_figures_joined, qollqamir_figures_join(q->figures[0], q->figures[1]))
     }
     return 0;
 }
@@ -2618,6 +3047,9 @@ static void same(const char *what, const uint8_t *a, const uint8_t *b, size_t le
 }
 
 static size_t asked, paired, triples, accepted[CALLS], refused[CALLS];
+
+/* How often an addition to figures gave each number. */
+static size_t counted[NUMBERS];
 
 /* The first refused answer of a call with a number and a place, and the bytes that it refused. */
 static struct refusal {
@@ -2654,7 +3086,7 @@ static size_t rows_of(const struct question *q, uint32_t *rows) {
     return numbers;
 }
 
-/* What the rules give for a question on settings files or rows; nothing for any other. */
+/* What the rules give for a question on settings files, rows or figures; nothing for any other. */
 static size_t ruled(const struct question *q, uint8_t *to) {
     uint32_t rows[250];
 #define RULED(type, rule)             \
@@ -2668,19 +3100,24 @@ static size_t ruled(const struct question *q, uint8_t *to) {
     case SETTINGS_VALUE: RULED(qollqamir_setting, shown_value(q->bytes, q->len, q->kind, (uint32_t)q->number))
     case SETTINGS_ROW_ALONE: RULED(qollqamir_setting_row_alone, shown_row_alone(q->bytes, q->len, q->number, q->kind))
     case WRITE_SETTINGS: RULED(qollqamir_written, shown_written(rows, rows_of(q, rows), q->room))
+    case FIGURES_START: RULED(qollqamir_figures, ((qollqamir_figures){.edition = q->edition}))
+    case FIGURES_ADD: RULED(qollqamir_figures_added, shown_added(q->figures[0], q->bytes, q->len))
+    case FIGURES_JOIN: RULED(qollqamir_figures_joined, shown_joined(q->figures[0], q->figures[1]))
     default: return 0;
     }
 #undef RULED
 }
 
 /* Asks twice and compares. The second time the stack and the answer's place hold another pattern, and the bytes, the output and the stack
-   are at other addresses: what stood in memory before would differ, and an address too. The bytes stay as they are, and so does the output
-   but for a result. Beside a refusal all is 0; a refused answer is also compared with the first that has the same call, number and place.
-   An accepted table and an assembled container are checked as a whole, and every answer on settings files against the rules. */
+   are at other addresses: what stood in memory before would differ, and an address too. The bytes and figures stay as they are, and so does
+   the output but for a result. Beside a refusal all is 0; a refused answer is also compared with the first that has the same call, number
+   and place. An accepted table and an assembled container are checked as a whole, and every answer on settings files and figures against
+   the rules. */
 static qollqamir_verdict ask(const struct question *question) {
     static const uint8_t patterns[4] = {0x00, 0xa5, 0xff, 0x5a};
     static uint8_t answers[2][sizeof(qollqamir_parts)], outs[2][1000], stood[1000];
     static _Alignas(uint32_t) uint8_t bytes[2][1000];
+    static qollqamir_figures figures[2][2];
     struct question copy = *question, *q = &copy;
     size_t len = 0;
     for (size_t i = 0; i < 2; i++) {
@@ -2688,6 +3125,9 @@ static qollqamir_verdict ask(const struct question *question) {
         if (question->bytes != NULL) {
             q->bytes = bytes[i];
             put(bytes[i], question->bytes, q->len);
+        }
+        if (question->figures != NULL) {
+            q->figures = memcpy(figures[i], question->figures, sizeof figures[i]);
         }
         q->out = outs[i];
         memset(outs[i], 0xee, sizeof outs[i]);
@@ -2697,12 +3137,15 @@ static qollqamir_verdict ask(const struct question *question) {
         if (question->bytes != NULL) {
             same("bytes handed in", q->bytes, question->bytes, q->len);
         }
+        if (question->figures != NULL) {
+            same("figures handed in", (const uint8_t *)q->figures, (const uint8_t *)question->figures, sizeof figures[i]);
+        }
     }
     asked++;
     same("answers", answers[0], answers[1], len);
     same("outputs", outs[0], outs[1], sizeof outs[0]);
     size_t result = 0;
-    if (q->call >= WRITE_PSV0) {
+    if (q->call >= WRITE_PSV0 && q->call < CALLS) {
         qollqamir_written written;
         memcpy(&written, answers[0], sizeof written);
         CHECK(written.len <= q->room);
@@ -2712,12 +3155,20 @@ static qollqamir_verdict ask(const struct question *question) {
         memset(stood, 0xee, sizeof stood);
     }
     same("the output past the result and what stood there", outs[0] + result, stood + result, sizeof stood - result);
-    uint8_t rules[sizeof(qollqamir_setting_row_alone)];
+    uint8_t rules[sizeof(qollqamir_figures_added)];
     same("the answer and the rules", answers[0], rules, ruled(q, rules));
 
     qollqamir_verdict verdict = {0, 0};
     if (q->call == KNOWN) {
         (answers[0][0] ? accepted : refused)[KNOWN]++;
+        return verdict;
+    }
+    if (q->call >= CALLS) {
+        if (q->call == FIGURES_ADD) {
+            memcpy(&verdict, answers[0] + offsetof(qollqamir_figures_added, verdict), sizeof verdict);
+            CHECK(verdict.number < NUMBERS);
+            counted[verdict.number]++;
+        }
         return verdict;
     }
     memcpy(&verdict, answers[0], sizeof verdict);
@@ -2867,6 +3318,16 @@ static void ask_first(struct question q) {
     same("the first part and occurrence 0", answers[0], answers[1], answer(&q, answers[1]));
 }
 
+/* One container more, in figures of none and in made-up ones. */
+static void ask_figures(struct question q) {
+    qollqamir_figures figures[2] = {qollqamir_figures_start(q.edition)};
+    q.call = FIGURES_ADD;
+    q.figures = figures;
+    ask(&q);
+    figures[0] = made_up(q.edition, 0);
+    ask(&q);
+}
+
 /* Every query of a container, or of PSV0 data alone, at every edition and one that there is not. */
 static void ask_reader(struct question file) {
     bool alone = file.call == PSV0_OPEN;
@@ -2884,6 +3345,9 @@ static void ask_reader(struct question file) {
             if (q.call == TABLE_PART || q.call == PART) {
                 ask_first(q);
             }
+        }
+        if (!alone) {
+            ask_figures((struct question){.bytes = file.bytes, .len = file.len, .edition = edition});
         }
     }
 }
@@ -3051,6 +3515,26 @@ static void ask_all_settings(void) {
     }
 }
 
+/* Figures at every edition: started, with nothing more, about the most, and joined with others. */
+static void ask_all_figures(void) {
+    for (size_t e = 0; e < FIGURES_EDITIONS * FIGURES_EDITIONS; e++) {
+        size_t edition = figures_editions[e / FIGURES_EDITIONS];
+        qollqamir_figures figures[2] = {made_up(edition, 0), made_up(figures_editions[e % FIGURES_EDITIONS], 1)};
+        struct question q = {.edition = edition, .figures = figures};
+        q.call = FIGURES_START;
+        ask(&q);
+        for (size_t opened = 65533; opened <= 65535; opened++) {
+            figures[0].opened = (uint16_t)opened;
+            q.call = FIGURES_ADD;
+            ask(&q);
+            q.call = FIGURES_JOIN;
+            for (figures[1].opened = 0; figures[1].opened < 3; figures[1].opened++) {
+                ask(&q);
+            }
+        }
+    }
+}
+
 /* Whether a call gave a number, at any place. */
 static bool gave(enum call call, size_t number) {
     for (size_t place = 0; place < PLACES; place++) {
@@ -3109,12 +3593,15 @@ static void test_every_byte(void) {
     }
     ask_private();
     ask_all_settings();
-    /* The calls on parts gave every number that they can and no other; 2 takes a longer file, which test_greatest_length has. */
+    ask_all_figures();
+    /* The calls on parts and figures gave every number that they can and no other; 2 takes a longer file, which test_greatest_length and
+       test_figures_refusals have. */
     for (size_t number = 1; number < NUMBERS; number++) {
         bool in_table = number <= 9 && number != 2, opening = in_table || (number >= 10 && number <= 25);
         CHECK(gave(TABLE, number) == in_table);
         CHECK(gave(TABLE_PART, number) == (in_table || number == 26) && gave(TABLE_PART_OCCURRENCE, number) == (in_table || number == 26));
         CHECK(gave(PART, number) == (opening || number == 26) && gave(PART_OCCURRENCE, number) == (opening || number == 26));
+        CHECK((counted[number] > 0) == opening);
         /* So did those on settings files; the writer's 56 takes more rows, which test_write_settings has, and its 54 takes 2^32. */
         bool own = number == 53 || number == 54 || number == 55 || number == 57 || number == 58 || number == 59;
         bool whole = own || number == 56 || number == 60;
@@ -3230,6 +3717,13 @@ int main(void) {
     test_settings_values();
     test_settings_row_alone();
     test_write_settings();
+    test_figures();
+    test_figures_stages();
+    test_figures_refusals();
+    test_figures_most();
+    test_figures_full();
+    test_figures_join();
+    test_figures_join_stays();
     test_every_byte();
     test_null();
     printf("c boundary: %d checks passed\n", checks);

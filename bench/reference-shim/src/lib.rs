@@ -125,3 +125,23 @@ pub unsafe extern "C" fn reference_write_settings(rows: *const u32, rows_len: us
     let out = std::slice::from_raw_parts_mut(out, out_len);
     number(reference::write_settings(from_raw_parts(rows, rows_len), out))
 }
+
+/// Figures at an edition, which are kept to the end.
+#[no_mangle]
+pub extern "C" fn reference_figures_start(edition: usize) -> *mut reference::Figures {
+    Box::into_raw(Box::new(reference::Figures::start(edition)))
+}
+
+/// # Safety
+/// `figures` are those of `reference_figures_start`; `bytes` points to `len` bytes.
+#[no_mangle]
+pub unsafe extern "C" fn reference_figures_add(figures: *mut reference::Figures, bytes: *const u8, len: usize) -> u8 {
+    match (*figures).add(from_raw_parts(bytes, len)) {
+        reference::Added::Counted(verdict) => number(verdict),
+        // Started again, so that every call but this one opens.
+        reference::Added::Full => {
+            *figures = reference::Figures::start((*figures).edition);
+            0
+        }
+    }
+}

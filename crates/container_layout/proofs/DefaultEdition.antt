@@ -2,7 +2,7 @@
 -- Assumes nothing.
 use Prim.Native.Nat.{ℕ, zero, suc, _≤_, min}
 use mathlib.Core.Path.{_≡_, refl, sym, _∙_, ap}
-use mathlib.Core.Bool.{Bool, true, false, true≢false}
+use mathlib.Core.Bool.{Bool, true, false, not, true≢false}
 use mathlib.Core.List.{List}
 use native.Mathlib.Omega.{arith}
 use lib.Dec.{leb, eqb}
@@ -10,7 +10,7 @@ use borrow.Author.Tests.{le-leb}
 use Rattle.constants.specs.Edition.{fileEdition}
 use Rattle.constants.proofs.Editions.{edition-few}
 use Rattle.wire.specs.Number.{u32At}
-use Rattle.wire.specs.Verdict.{_then_, check, when, from, each, numberOf}
+use Rattle.wire.specs.Verdict.{_then_, check, when, from}
 use Rattle.wire.specs.declared.Verdict.{Verdict}
 use Rattle.wire.specs.declared.Verdict.the-variants.{Accepted, Refused}
 use Rattle.part_table_layout.specs.Table.{headerJudged, partJudged, nameJudged, partsJudged, tableJudged}
@@ -18,6 +18,7 @@ use Rattle.psv0_layout.specs.Judged.{headJudged, fieldsJudged, bodyFits, elemen
 use Rattle.psv0_layout.specs.Layout.{editionRead, defaultEdition}
 use Rattle.container_layout.specs.Container.{psvOf, beforePsv, containerJudged}
 use Rattle.container_layout.proofs.Demand3.{editions-agree}
+use Rattle.container_layout.proofs.Numbers.{passes, Passes, next, one, all}
 
 -- the same verdict; or 24 in the place of an acceptance, and then the file is of edition 3
 pub data Change (f : ℕ) (old new : Verdict) : Type 0 where
@@ -55,33 +56,18 @@ module _ (d : List ℕ) where
   of-data k (suc (suc (suc (suc f)))) g h l = absurd (omega arith)
 
 -- ---- edition 2, and any older one, never gives 24
-record Other (v : Verdict) : Type 0 where
-  told : eqb (numberOf v) 24 ≡ false
+abbrev other : ℕ → Bool
+other n = not (eqb n 24)
 
-next : (a b : Verdict) → Other a → Other b → Other (a then b)
-unfolding _then_
-next Accepted b f g = g
-next (Refused n p) b f g = f
-
-other : (t : Bool) (n p : ℕ) → eqb n 24 ≡ false → Other (check t n p)
-unfolding check
-other true n p h = record { told = refl }
-other false n p h = record { told = h }
-
-all : (f : ℕ → Verdict) (n : ℕ) → ((i : ℕ) → Other (f i)) → Other (each f n)
-unfolding each
-all f zero h = record { told = refl }
-all f (suc n) h = next _ _ (all f n h) (h n)
-
-older-before : (k : ℕ) (b : List ℕ) → Other (beforePsv k b)
+older-before : (k : ℕ) (b : List ℕ) → Passes other (beforePsv k b)
 unfolding beforePsv tableJudged headerJudged partsJudged partJudged nameJudged
-older-before k b = search (next, other, all) depth 20
+older-before k b = search (next other, one other, all other) depth 20
 
-older-data : (d : List ℕ) (er : ℕ) → er ≤ 2 → Other (judgedAt er d)
+older-data : (d : List ℕ) (er : ℕ) → er ≤ 2 → Passes other (judgedAt er d)
 unfolding judgedAt headJudged fieldsJudged bodyFits elementsJudged elementJudged from when
-older-data d zero h = search (next, other) depth 20
-older-data d (suc zero) h = search (next, other, all) depth 20
-older-data d (suc (suc zero)) h = search (next, other, all) depth 20
+older-data d zero h = search (next other, one other) depth 20
+older-data d (suc zero) h = search (next other, one other, all other) depth 20
+older-data d (suc (suc zero)) h = search (next other, one other, all other) depth 20
 older-data d (suc (suc (suc er))) h = absurd (omega arith)
 
 module _ (b : List ℕ) where
@@ -98,14 +84,14 @@ module _ (b : List ℕ) where
   pub default-changed : Change edition (containerJudged 1 b) (containerJudged defaultEdition b)
   default-changed = changed 1 (omega arith) (omega arith)
 
-  older : (k : ℕ) → k ≤ 2 → Other (containerJudged k b)
+  older : (k : ℕ) → k ≤ 2 → Passes other (containerJudged k b)
   unfolding containerJudged
-  older k h = next _ _ (older-before k b) (older-data (psvOf b) (editionRead k (psvOf b)) (omega arith))
+  older k h = next other _ _ (older-before k b) (older-data (psvOf b) (editionRead k (psvOf b)) (omega arith))
 
   -- what gives 24 now is of edition 3, and every older edition accepts it
   module _ {p : ℕ} (r : containerJudged defaultEdition b ≡ Refused 24 p) where
     told : Change edition (containerJudged 2 b) (containerJudged defaultEdition b) → (containerJudged 2 b ≡ Accepted) × (edition ≡ 3)
-    told (same e) = absurd (true≢false (sym (ap (λ v. eqb (numberOf v) 24) (sym e ∙ r)) ∙ older 2 (omega arith) .told))
+    told (same e) = absurd (true≢false (sym (older 2 (omega arith) .told) ∙ ap (passes other) (sym e ∙ r)))
     told (newly a n f) = (a, f)
 
     pub of-edition-3 : fileEdition (u32At (psvOf b) 0) ≡ 3

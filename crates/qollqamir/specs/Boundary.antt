@@ -15,6 +15,12 @@ use Rattle.dxil_layout.specs.declared.ProgramHeader.{ProgramHeader}
 use Rattle.dxil_report_layout.specs.declared.ProgramReport.{ProgramReport}
 use Rattle.dxil_report_layout.specs.declared.Stages.{Stages}
 use Rattle.dxil_report_layout.specs.declared.Stages.the-variants.{Equal, Different, Unset as NoStage}
+use Rattle.figures_layout.specs.declared.AddAnswer.{AddAnswer}
+use Rattle.figures_layout.specs.declared.Addition.{Addition}
+use Rattle.figures_layout.specs.declared.Addition.the-variants.{Counted, Full}
+use Rattle.figures_layout.specs.declared.JoinAnswer.{JoinAnswer}
+use Rattle.figures_layout.specs.declared.Joining.{Joining}
+use Rattle.figures_layout.specs.declared.Joining.the-variants.{Joined, OtherEdition, Full as NoRoom}
 use Rattle.part_table_layout.specs.declared.Found.{Found}
 use Rattle.part_table_layout.specs.declared.Found.the-variants.{At as FoundAt, Nothing}
 use Rattle.part_table_layout.specs.declared.Part.{Part}
@@ -71,6 +77,8 @@ use Rattle.qollqamir.specs.declared.CItem.{CItem}
 use Rattle.qollqamir.specs.declared.CRange.{CRange}
 use Rattle.qollqamir.specs.declared.CRoot.{CRoot}
 use Rattle.qollqamir.specs.declared.CRootReport.{CRootReport}
+use Rattle.qollqamir.specs.declared.CAdded.{CAdded}
+use Rattle.qollqamir.specs.declared.CJoined.{CJoined}
 use Rattle.qollqamir.specs.declared.CSetting.{CSetting}
 use Rattle.qollqamir.specs.declared.CSettings.{CSettings}
 use Rattle.qollqamir.specs.declared.CSettingsRow.{CSettingsRow}
@@ -453,3 +461,26 @@ cSetting a = record { verdict = cVerdict (a .verdict); setting = settingField (a
 
 unfoldable pub cSettingsWritten : SettingsWritten → CWritten
 cSettingsWritten w = record { verdict = cVerdict (w .verdict); len = w .len }
+
+-- ---- the night's figures
+-- 0 where a container is counted, 1 where the figures are full
+abbrev pub additionNumber : Addition → ℕ
+additionNumber (Counted v) = 0
+additionNumber Full = 1
+
+-- what the opening of a container that is counted gave; zeros beside full
+abbrev pub additionVerdict : Addition → CVerdict
+additionVerdict (Counted v) = cVerdict v
+additionVerdict Full = record { number = 0; place = 0 }
+
+unfoldable pub cAdded : AddAnswer → CAdded
+cAdded a = record { answer = additionNumber (a .answer); verdict = additionVerdict (a .answer); figures = a .figures }
+
+-- 0 where two figures are joined, 1 where there is no room, 2 where their editions differ
+abbrev pub joiningNumber : Joining → ℕ
+joiningNumber Joined = 0
+joiningNumber NoRoom = 1
+joiningNumber OtherEdition = 2
+
+unfoldable pub cJoined : JoinAnswer → CJoined
+cJoined a = record { answer = joiningNumber (a .answer); figures = a .figures }

@@ -7,6 +7,11 @@ use dxil_layout::Program;
 use dxil_layout::ProgramHeader;
 use dxil_report_layout::ProgramReport;
 use dxil_report_layout::Stages;
+use figures_layout::AddAnswer;
+use figures_layout::Addition;
+use figures_layout::Figures;
+use figures_layout::JoinAnswer;
+use figures_layout::Joining;
 use part_table_layout::Found;
 use part_table_layout::Part;
 use part_table_layout::Table;
@@ -48,6 +53,7 @@ ghost use Rattle.container.specs.Opened.{containerOpeningOf};
 ghost use Rattle.container_layout.specs.Container.{psvOf, containerJudged, containerAnswered, containerPart, containerOccurrence};
 ghost use Rattle.dxil_layout.specs.Program.{programOf};
 ghost use Rattle.dxil_report_layout.specs.Reported.{programReportOf};
+ghost use Rattle.figures_layout.specs.Figures.{started, added, joined};
 ghost use Rattle.part_table_layout.specs.Lookup.{partOf, occurrenceOf};
 ghost use Rattle.part_table_layout.specs.Table.{tableOf};
 ghost use Rattle.psv0_layout.specs.Answers.{openingOf, infoAnswerOf, resourceAnswerOf, elementAnswerOf, lengthsAnswerOf, refusedInfo, refusedResource, refusedElement, questionOf, pointsOf, bytesOf, bytesBeside};
@@ -61,7 +67,7 @@ ghost use Rattle.settings_layout.specs.Given as settingsWriting;
 ghost use Rattle.settings_layout.specs.Shown.{settingsOf, rowAnswerOf, rowAloneOf, settingAnswerOf};
 ghost use Rattle.signature_layout.specs.Signature.{signatureOf, elementOf, aloneOf, viewOf as nameView};
 ghost use Rattle.wire.specs.Number.{u32At};
-ghost use Rattle.qollqamir.specs.Boundary.{cVerdict, cField, cTable, cPart, cOpening, cPsvOpening, cInfo, cResource, cElement, cLengths, isString, pointsNumber, cSpan, cWritten, cAssembly, stagesNumber, cHeader, cProgram, cReport, cSignature, cSignatureReport, nameParts, cSignatureElement, cDifference, partNumbered, noPart, reportNumbered, elementNumbered, differenceNumbered, cRoot, cRootReport, parameterFields, cItem, cRange, cSettings, cSettingsRow, cSettingsRowAlone, settingField, cSetting, cSettingsWritten, viewOf, sectionNumbered, sectionVerdict, sectionShown, CShows};
+ghost use Rattle.qollqamir.specs.Boundary.{cVerdict, cField, cTable, cPart, cOpening, cPsvOpening, cInfo, cResource, cElement, cLengths, isString, pointsNumber, cSpan, cWritten, cAssembly, stagesNumber, cHeader, cProgram, cReport, cSignature, cSignatureReport, nameParts, cSignatureElement, cDifference, partNumbered, noPart, reportNumbered, elementNumbered, differenceNumbered, cRoot, cRootReport, parameterFields, cItem, cRange, cSettings, cSettingsRow, cSettingsRowAlone, settingField, cSetting, cSettingsWritten, additionNumber, additionVerdict, cAdded, joiningNumber, cJoined, viewOf, sectionNumbered, sectionVerdict, sectionShown, CShows};
 
 // A verdict: the refusal's number, 0 where the call accepts, and its place.
 #[repr(C)]
@@ -359,6 +365,21 @@ pub struct CSettingsRowAlone {
 pub struct CSetting {
     pub verdict: CVerdict,
     pub setting: CField,
+}
+
+// Figures with one container more: 0 where it is counted, with what its opening gave; 1 where they are full, with zeros.
+#[repr(C)]
+pub struct CAdded {
+    pub answer: usize,
+    pub verdict: CVerdict,
+    pub figures: Figures,
+}
+
+// Two figures joined: 0; the first as it was, and 1 where there is no room, 2 where their editions differ.
+#[repr(C)]
+pub struct CJoined {
+    pub answer: usize,
+    pub figures: Figures,
 }
 
 fn c_verdict(v: Verdict) -> CVerdict
@@ -1154,6 +1175,60 @@ fn c_settings_written(a: SettingsWritten) -> CWritten
     }
 }
 
+fn addition_number(a: Addition) -> usize
+    ensures { λ r. ⌜ r ≡ additionNumber a ⌝ }
+{
+    match a {
+        Addition::Counted(_) => 0,
+        Addition::Full => 1,
+    }
+}
+
+fn addition_verdict(a: Addition) -> CVerdict
+    ensures { λ r. ⌜ r ≡ additionVerdict a ⌝ }
+{
+    match a {
+        Addition::Counted(v) => c_verdict(v),
+        Addition::Full => CVerdict {
+            number: 0,
+            place: 0,
+        },
+    }
+}
+
+fn c_added(a: AddAnswer) -> CAdded
+    ensures { λ r. ⌜ r ≡ cAdded a ⌝ }
+{
+    let answer = a.answer;
+    let figures = a.figures;
+    CAdded {
+        answer: addition_number(answer),
+        verdict: addition_verdict(answer),
+        figures,
+    }
+}
+
+fn joining_number(a: Joining) -> usize
+    ensures { λ r. ⌜ r ≡ joiningNumber a ⌝ }
+{
+    match a {
+        Joining::Joined => 0,
+        Joining::Full => 1,
+        Joining::OtherEdition => 2,
+    }
+}
+
+fn c_joined(a: JoinAnswer) -> CJoined
+    ensures { λ r. ⌜ r ≡ cJoined a ⌝ }
+{
+    let answer = a.answer;
+    let figures = a.figures;
+    CJoined {
+        answer: joining_number(answer),
+        figures,
+    }
+}
+
 // The part table, 1 to 9.
 #[no_mangle]
 pub extern "C" fn qollqamir_table(b: &[u8]) -> CTable
@@ -1620,4 +1695,28 @@ pub extern "C" fn qollqamir_write_settings(rows: &[u32], out: &mut [u8]) -> CWri
     ensures { λ r. ⌜ now (out .exit) ≡ settingsWriting.output (now (rows .entry)) (now (out .entry)) ⌝ }
 {
     c_settings_written(settings_writer::write(rows, out))
+}
+
+// Figures of no container, at an edition.
+#[no_mangle]
+pub extern "C" fn qollqamir_figures_start(edition: usize) -> Figures
+    ensures { λ r. ⌜ r ≡ started edition ⌝ }
+{
+    figures_counter::start(edition)
+}
+
+// One container more, opened at the figures' edition.
+#[no_mangle]
+pub extern "C" fn qollqamir_figures_add(f: Figures, b: &[u8]) -> CAdded
+    ensures { λ r. ⌜ r ≡ cAdded (added f (now (b .entry))) ⌝ }
+{
+    c_added(figures_counter::add(f, b))
+}
+
+// Two figures joined.
+#[no_mangle]
+pub extern "C" fn qollqamir_figures_join(f: Figures, g: Figures) -> CJoined
+    ensures { λ r. ⌜ r ≡ cJoined (joined f g) ⌝ }
+{
+    c_joined(figures_counter::join(f, g))
 }

@@ -7,10 +7,11 @@ use std::fmt::Debug;
 use qollqamir::raw;
 use reference::{Opening, Program, ProgramReport, Refusal, Text};
 
+use crate::entries::at_least;
 use crate::make::get4;
 use crate::random::Random;
 use crate::strings::{ends_entry_name, Notes, Sections, Way};
-use crate::{entries, roots, settings, signatures};
+use crate::{entries, figures, roots, settings, signatures};
 
 /// A difference, and the bytes it was seen on.
 #[derive(Debug)]
@@ -70,6 +71,7 @@ pub enum Call {
     SettingRow,
     RowAlone,
     WriteRows,
+    Add,
 }
 
 /// The numbers of opening a container at an edition, and more.
@@ -84,7 +86,7 @@ const REPORTED: &[u8] = opening_and!(26, 43, 44, 45, 52);
 const ROOTED: &[u8] = opening_and!(26, 46, 47, 48, 49, 50, 51);
 
 /// The calls, and the numbers that each can give.
-pub const CALLS: [(&str, &[u8]); 32] = [
+pub const CALLS: [(&str, &[u8]); 33] = [
     ("table", &[1, 2, 3, 4, 5, 6, 7, 8, 9]),
     ("table part", &[1, 2, 3, 4, 5, 6, 7, 8, 9, 26]),
     ("part", opening_and!(26)),
@@ -117,6 +119,7 @@ pub const CALLS: [(&str, &[u8]); 32] = [
     ("setting row", &[26, 53, 54, 55, 56, 57, 58, 59, 60]),
     ("row alone", &[53, 54, 55, 57, 58, 59]),
     ("write rows", &[27, 28, 56, 57, 58, 59]),
+    ("add", opening_and!()),
 ];
 
 /// The greatest number of documents 01 and 02 is below this.
@@ -340,7 +343,7 @@ pub const EDGES: [&str; 9] = [
 ];
 
 /// How often each call gave each verdict (0: it accepted), and at which places; how often each of `SEEN` came, and of `EDGES` in a
-/// reading and in a writer; what the strings, the tables' entries and the settings files were.
+/// reading and in a writer; what the strings, the tables' entries, the settings files and the figures were.
 pub struct Hits {
     pub counts: [[u64; NUMBERS]; CALLS.len()],
     pub places: [[BTreeSet<usize>; NUMBERS]; CALLS.len()],
@@ -350,6 +353,7 @@ pub struct Hits {
     pub strings: Notes,
     pub entries: entries::Notes,
     pub settings: settings::Notes,
+    pub figures: figures::Notes,
 }
 
 impl Default for Hits {
@@ -363,6 +367,7 @@ impl Default for Hits {
             strings: Notes::default(),
             entries: entries::Notes::default(),
             settings: settings::Notes::default(),
+            figures: figures::Notes::default(),
         }
     }
 }
@@ -401,6 +406,18 @@ impl Hits {
         let places = &mut self.places[call as usize][number];
         if PLACED.contains(&(number as u8)) && places.len() < PLACES {
             places.insert(verdict.place);
+        }
+    }
+
+    /// Adds the numbers that a call gave less often than it must, or at fewer places.
+    pub fn given(&self, call: Call, least: u64, places: u64, missed: &mut Vec<String>) {
+        let call = call as usize;
+        let (name, can) = CALLS[call];
+        for number in can.iter().map(|number| usize::from(*number)) {
+            at_least(&format!("{number} by {name}"), self.counts[call][number], least, missed);
+            if PLACED.contains(&(number as u8)) {
+                at_least(&format!("another place of {number} by {name}"), self.places[call][number].len() as u64, places, missed);
+            }
         }
     }
 

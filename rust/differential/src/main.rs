@@ -1,4 +1,4 @@
-//! Holds the compiled library against the independent reader on containers and settings files made at random.
+//! Holds the compiled library against the independent reader on containers, settings files and lists of containers made at random.
 //!
 //!     differential [--cases N] [--seed S] [--only CASE]
 //!
@@ -8,6 +8,8 @@ mod compare;
 mod demands;
 mod entries;
 mod faults;
+mod figures;
+mod lists;
 mod make;
 mod random;
 mod repeats;
@@ -85,10 +87,17 @@ fn main() -> ExitCode {
         if let Err(mismatch) = settings::fixed(seed) {
             return report(seed, "the settings files of every run", mismatch);
         }
+        if let Err(mismatch) = figures::fixed(seed, &mut done.hits) {
+            return report(seed, "the long lists of every run", mismatch);
+        }
     }
     for number in numbers {
-        let both = || case(seed, number, &vectors, &mut done).and_then(|()| settings::case(seed, number, &mut done.hits));
-        let outcome = catch_unwind(AssertUnwindSafe(both));
+        let all = || {
+            case(seed, number, &vectors, &mut done)?;
+            settings::case(seed, number, &mut done.hits)?;
+            figures::case(seed, number, &mut done.hits)
+        };
+        let outcome = catch_unwind(AssertUnwindSafe(all));
         let outcome = outcome.unwrap_or_else(|_| Err(Mismatch { what: "a panic".to_string(), bytes: Vec::new() }));
         if let Err(mismatch) = outcome {
             return report(seed, &format!("case {number}"), mismatch);
@@ -168,6 +177,7 @@ fn summary(done: &Done) -> Vec<String> {
     done.hits.strings.summary(&mut missed);
     done.hits.entries.summary(&mut missed);
     settings::summary(&done.hits, &mut missed);
+    figures::summary(&done.hits, &mut missed);
     println!("containers accepted by readers 0 to 3: {:?}", done.accepted);
     println!("widenings for readers 0 to 3: {:?}", done.widenings);
     println!("round trips: {}, of them from plain form {}", done.round_trips, done.plain);
@@ -201,14 +211,7 @@ fn case(seed: u64, number: u64, vectors: &[Vec<u8>], done: &mut Done) -> Check {
     let random = &mut Random::new(seed, number);
     match random.below(122) {
         0..=3 => {
-            let len = random.below(160);
-            let mut bytes = random.bytes(len);
-            if random.one_in(2) && len >= 32 {
-                bytes[..4].copy_from_slice(b"DXBC");
-                bytes[20..24].copy_from_slice(&[1, 0, 0, 0]);
-                make::put4(&mut bytes, 24, len as u32);
-                make::put4(&mut bytes, 28, random.pick(&[0, 1, 2, 3, 96]));
-            }
+            let bytes = make::any_bytes(random);
             container_case(random, &bytes, done)?;
             compare::dxil(&bytes, &mut done.hits)?;
             signatures::data(random, &bytes, &mut done.hits)?;
@@ -235,51 +238,17 @@ fn case(seed: u64, number: u64, vectors: &[Vec<u8>], done: &mut Done) -> Check {
             note_edges(&pieces, &psv0, done);
             Ok(())
         }
-        // Damaged, cut or lengthened PSV0 data, in a container that is right.
+        // Damaged PSV0 data, in a container that is right.
         45..=69 => {
-            let (mut psv0, fields) = Pieces::valid(random).bytes();
-            if random.one_in(4) {
-                make::resize(random, &mut psv0);
-            } else {
-                make::damage(random, &mut psv0, &fields);
-            }
+            let psv0 = make::damaged_psv0(random);
             within(random, &psv0, done)
         }
-        // A damaged container.
         70..=84 => {
-            let psv0 = Pieces::valid(random).bytes().0;
-            let mut parts = make::parts(random, &psv0);
-            match random.below(8) {
-                0 => {
-                    let (from, to) = (random.below(parts.len()), random.below(parts.len()));
-                    parts[to].0 = parts[from].0;
-                }
-                1 => {
-                    let gone = random.below(parts.len());
-                    parts.remove(gone);
-                }
-                2 => {
-                    let gone = random.below(parts.len());
-                    parts[gone].1.clear();
-                }
-                _ => (),
-            }
-            let (mut bytes, fields) = make::container(random, &parts);
-            if !random.one_in(4) {
-                make::damage(random, &mut bytes, &fields);
-            }
+            let bytes = make::damaged_container(random);
             container_case(random, &bytes, done)
         }
-        // A container that was cut or lengthened, with or without a size field that follows.
         85..=89 => {
-            let psv0 = Pieces::valid(random).bytes().0;
-            let parts = make::parts(random, &psv0);
-            let mut bytes = make::container(random, &parts).0;
-            make::resize(random, &mut bytes);
-            if random.one_in(2) && bytes.len() >= 28 {
-                let len = bytes.len() as u32;
-                make::put4(&mut bytes, 24, len);
-            }
+            let bytes = make::resized_container(random);
             container_case(random, &bytes, done)
         }
         90..=95 => write_case(random, done),
@@ -328,8 +297,7 @@ fn note_edges(pieces: &Pieces, psv0: &[u8], done: &mut Done) {
 
 /// PSV0 data alone, and in a container.
 fn within(random: &mut Random, psv0: &[u8], done: &mut Done) -> Check {
-    let parts = make::parts(random, psv0);
-    let bytes = make::container(random, &parts).0;
+    let bytes = make::around(random, psv0);
     container_case(random, &bytes, done)?;
     psv0_case(random, psv0, done)
 }

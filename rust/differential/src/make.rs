@@ -650,15 +650,20 @@ pub fn range_size(version: usize) -> usize {
     16 + 4 * version
 }
 
-/// Places for stretches of the given lengths after `start`, in any order, and their end.
-fn spread(random: &mut Random, start: usize, lengths: &[usize]) -> (Vec<usize>, usize) {
+/// The numbers below `count` in any order.
+pub fn order(random: &mut Random, count: usize) -> Vec<usize> {
     let mut order = Vec::new();
-    for i in 0..lengths.len() {
+    for i in 0..count {
         order.insert(random.below(i + 1), i);
     }
+    order
+}
+
+/// Places for stretches of the given lengths after `start`, in any order, and their end.
+fn spread(random: &mut Random, start: usize, lengths: &[usize]) -> (Vec<usize>, usize) {
     let mut places = vec![0; lengths.len()];
     let mut end = start;
-    for i in order {
+    for i in order(random, lengths.len()) {
         if random.one_in(8) {
             end += random.below(9);
         }
@@ -985,4 +990,72 @@ pub fn resize(random: &mut Random, bytes: &mut Vec<u8>) {
         let len = random.below(bytes.len() + 1);
         bytes.truncate(len);
     }
+}
+
+/// A right container around PSV0 data.
+pub fn around(random: &mut Random, psv0: &[u8]) -> Vec<u8> {
+    let parts = parts(random, psv0);
+    container(random, &parts).0
+}
+
+/// Any bytes, of which some begin as a container does.
+pub fn any_bytes(random: &mut Random) -> Vec<u8> {
+    let len = random.below(160);
+    let mut bytes = random.bytes(len);
+    if random.one_in(2) && len >= 32 {
+        bytes[..4].copy_from_slice(b"DXBC");
+        bytes[20..24].copy_from_slice(&[1, 0, 0, 0]);
+        put4(&mut bytes, 24, len as u32);
+        put4(&mut bytes, 28, random.pick(&[0, 1, 2, 3, 96]));
+    }
+    bytes
+}
+
+/// Damaged, cut or lengthened PSV0 data.
+pub fn damaged_psv0(random: &mut Random) -> Vec<u8> {
+    let (mut psv0, fields) = Pieces::valid(random).bytes();
+    if random.one_in(4) {
+        resize(random, &mut psv0);
+    } else {
+        damage(random, &mut psv0, &fields);
+    }
+    psv0
+}
+
+/// A damaged container, of some of which a part has another's name, is gone or is empty.
+pub fn damaged_container(random: &mut Random) -> Vec<u8> {
+    let psv0 = Pieces::valid(random).bytes().0;
+    let mut parts = parts(random, &psv0);
+    match random.below(8) {
+        0 => {
+            let (from, to) = (random.below(parts.len()), random.below(parts.len()));
+            parts[to].0 = parts[from].0;
+        }
+        1 => {
+            let gone = random.below(parts.len());
+            parts.remove(gone);
+        }
+        2 => {
+            let gone = random.below(parts.len());
+            parts[gone].1.clear();
+        }
+        _ => (),
+    }
+    let (mut bytes, fields) = container(random, &parts);
+    if !random.one_in(4) {
+        damage(random, &mut bytes, &fields);
+    }
+    bytes
+}
+
+/// A container that was cut or lengthened, with or without a size field that follows.
+pub fn resized_container(random: &mut Random) -> Vec<u8> {
+    let psv0 = Pieces::valid(random).bytes().0;
+    let mut bytes = around(random, &psv0);
+    resize(random, &mut bytes);
+    if random.one_in(2) && bytes.len() >= 28 {
+        let len = bytes.len() as u32;
+        put4(&mut bytes, 24, len);
+    }
+    bytes
 }

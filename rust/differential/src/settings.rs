@@ -4,7 +4,7 @@
 use qollqamir::raw;
 use reference::{Refusal, Settings, SettingsRow};
 
-use crate::compare::{delivered, field, refusal_of, same, verdict_of, Call, Check, Hits, Mismatch, CALLS, PLACED};
+use crate::compare::{delivered, field, refusal_of, same, verdict_of, Call, Check, Hits, Mismatch};
 use crate::entries::{at_least, circumstances, each};
 use crate::faults::{walk, Faults, Number, READER, WRITER};
 use crate::random::Random;
@@ -789,16 +789,7 @@ const GIVEN: [(Call, u64, u64); 5] = [
 
 /// Prints what the settings files of a run were, and adds what came less often than it must.
 pub fn summary(hits: &Hits, missed: &mut Vec<String>) {
-    for (call, least, places) in GIVEN {
-        let call = call as usize;
-        let (name, can) = CALLS[call];
-        for number in can.iter().map(|number| usize::from(*number)) {
-            at_least(&format!("{number} by {name}"), hits.counts[call][number], least, missed);
-            if PLACED.contains(&(number as u8)) {
-                at_least(&format!("another place of {number} by {name}"), hits.places[call][number].len() as u64, places, missed);
-            }
-        }
-    }
+    GIVEN.into_iter().for_each(|(call, least, places)| hits.given(call, least, places, missed));
     let notes = &hits.settings;
     notes.read.summary(&READER, missed);
     notes.written.summary(&WRITER, missed);

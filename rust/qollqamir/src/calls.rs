@@ -7,12 +7,12 @@ use std::mem::size_of;
 
 /// Declares structs of the header. None has padding: its size is the sum of the sizes of its fields.
 macro_rules! structs {
-    ($($(#[$doc:meta])* $name:ident { $($field:ident: $type:ty,)* })*) => {
+    ($($(#[$doc:meta])* $name:ident { $($(#[$field_doc:meta])* $field:ident: $type:ty,)* })*) => {
         $($(#[$doc])*
         #[repr(C)]
         #[derive(Clone, Copy, Debug, PartialEq, Eq)]
         pub struct $name {
-            $(pub $field: $type,)*
+            $($(#[$field_doc])* pub $field: $type,)*
         }
 
         const _: () = assert!(size_of::<$name>() == 0 $(+ size_of::<$type>())*, concat!(stringify!($name), " has padding"));)*
@@ -287,6 +287,41 @@ structs! {
         verdict: Verdict,
         setting: Field,
     }
+
+    /// Figures over a list of containers, opened one by one at one edition. Plain data: whatever numbers it holds, the calls answer.
+    Figures {
+        /// The edition that they were started at.
+        edition: usize,
+        /// The sum of the accepted lengths.
+        bytes: u64,
+        /// How many were opened, at most 65,535.
+        opened: u16,
+        /// How many of them were accepted.
+        accepted: u16,
+        /// How many of them were refused.
+        refused: u16,
+        /// By refusal number, for the refused ones. An opening gives 1 to 25; 0, 26 and 27 stay 0.
+        refusals: [u16; 28],
+        /// By the file's edition, for the accepted ones.
+        editions: [u16; 4],
+        /// By the stage that the reading shows, for the accepted ones.
+        stages: [u16; 16],
+        /// How many accepted ones show no stage.
+        unset: u16,
+    }
+
+    /// Figures with one container more: 0 and the verdict of its opening, or 1 and zeros where they are full.
+    FiguresAdded {
+        answer: usize,
+        verdict: Verdict,
+        figures: Figures,
+    }
+
+    /// Two figures joined: 0; or the first as it was, with 1 where there is no room and 2 where their editions differ.
+    FiguresJoined {
+        answer: usize,
+        figures: Figures,
+    }
 }
 
 mod archive {
@@ -366,6 +401,9 @@ mod archive {
             out_len: usize,
         ) -> Written;
         pub fn qollqamir_write_settings(rows: *const u32, rows_len: usize, out: *mut u8, out_len: usize) -> Written;
+        pub fn qollqamir_figures_start(edition: usize) -> Figures;
+        pub fn qollqamir_figures_add(figures: Figures, bytes: *const u8, len: usize) -> FiguresAdded;
+        pub fn qollqamir_figures_join(figures: Figures, more: Figures) -> FiguresJoined;
     }
 }
 
@@ -550,4 +588,22 @@ pub fn write_settings_rows(rows: &[SettingsRow], out: &mut [u8]) -> Written {
     // SAFETY: as said above; a row is its three numbers in order, so these are 3 x rows.len() numbers. They stand in memory, so the
     // product doesn't wrap.
     unsafe { archive::qollqamir_write_settings(rows.as_ptr().cast(), 3 * rows.len(), out.as_mut_ptr(), out.len()) }
+}
+
+/// Figures of no container, at an edition.
+pub fn figures_start(edition: usize) -> Figures {
+    // SAFETY: as said above.
+    unsafe { archive::qollqamir_figures_start(edition) }
+}
+
+/// Figures with one container more, opened at their edition.
+pub fn figures_add(figures: Figures, bytes: &[u8]) -> FiguresAdded {
+    // SAFETY: as said above.
+    unsafe { archive::qollqamir_figures_add(figures, bytes.as_ptr(), bytes.len()) }
+}
+
+/// Two figures joined.
+pub fn figures_join(figures: Figures, more: Figures) -> FiguresJoined {
+    // SAFETY: as said above.
+    unsafe { archive::qollqamir_figures_join(figures, more) }
 }

@@ -1,5 +1,6 @@
 //! Safe calls to the proved reader and writer of DirectX shader containers and their PSV0 part, and to the readers of the DXIL part's
-//! header, of the signature parts and of the root signature; and to the reader and writer of settings files.
+//! header, of the signature parts and of the root signature; to the reader and writer of settings files; and to figures over a list of
+//! containers.
 //!
 //! Any bytes get an answer: the value, or a [`Refusal`] with a number of documents 01 and 02 and a place. Views are slices of the bytes
 //! handed in. A value that the file's edition or stage lacks is `None`. A string is a [`Text`]: its bytes, the same as `&str`, and its code
@@ -27,18 +28,20 @@
 #![warn(missing_docs)]
 
 mod calls;
+mod figures;
 mod root;
 mod settings;
 mod signature;
 
+pub use figures::{Added, Joined};
 pub use root::{root_signature, rts0_item_alone, rts0_range_alone, RootItem, RootRange, RootSignature};
 pub use settings::{write_settings, Settings, SettingsRow, SettingsRows};
 pub use signature::{first_difference, sg1_element_alone, signature, Elements, Signature, SignatureElement, SignaturePart};
 
-// Nothing in it can be unset, so it is shown as the call gives it.
-pub use calls::ProgramHeader;
+// Nothing in them can be unset, so they are shown as the calls give them.
+pub use calls::{Figures, ProgramHeader};
 
-/// The library's calls as the C header has them: plain structs that begin with a verdict.
+/// The library's calls as the C header has them: plain structs that, but for figures, begin with a verdict.
 pub mod raw {
     pub use crate::calls::*;
 }

@@ -1,5 +1,5 @@
 //! The boxes M and C of document 01 through the safe calls, the program header, the signature parts, the root signature, the strings,
-//! several private parts and the settings files of document 02, and the last field of every struct.
+//! several private parts, the settings files and the figures of document 02, and the last field of every struct.
 
 use qollqamir::*;
 
@@ -1092,4 +1092,516 @@ fn settings_are_refused() {
     let written = raw::write_settings(&numbers[..3], &mut out);
     assert_eq!((written.verdict, written.len), (raw::Verdict { number: 0, place: 0 }, 4));
     assert_eq!(out[..5], *b"\x01\x05\x01\x03\xee");
+}
+
+/// PSV0 data with a runtime record of `s` bytes, more than 24, a number where edition 1 has the stage, and four empty strings.
+fn psv0_stage(s: usize, stage: u8) -> Vec<u8> {
+    let mut psv0 = vec![0; 4 + s + 16];
+    psv0[0] = s as u8;
+    psv0[4 + 24] = stage;
+    psv0[4 + s + 4] = 4;
+    psv0
+}
+
+/// A container with a number put in.
+fn changed(mut bytes: Vec<u8>, at: usize, number: u32) -> Vec<u8> {
+    put4(&mut bytes, at, number);
+    bytes
+}
+
+/// The box M with bytes after it, up to the greatest length.
+fn longest() -> Vec<u8> {
+    let mut bytes = box_m(24, 24);
+    bytes.resize(16_777_216, 0xcc);
+    changed(bytes, 24, 16_777_216)
+}
+
+/// A list whose figures are worked out below.
+fn worked() -> [Vec<u8>; 13] {
+    [
+        box_m(24, 24),                        // 92 bytes, edition 0
+        box_c(52, 1),                         // 136, edition 3, stage 5
+        box_c(52, 8),                         // the same; 24 at edition 3
+        vec![],                               // 1
+        changed(box_m(24, 24), 36, 51),       // 92; 8 at part 1
+        shader(&psv0_s()),                    // 220, edition 3, stage 13
+        shader(&psv0_stage(36, 0)),           // 116, edition 1, stage 0
+        shader(&psv0_stage(48, 15)),          // 128, edition 2, stage 15
+        shader(&psv0_stage(36, 16)),          // 116, edition 1; 15 but at edition 0
+        box_c(56, 1),                         // 140, edition 3, stage 5
+        shader_of(&[7; 44], &psv0_m(24, 24)), // 132, edition 0
+        changed(shader(&psv0_s()), 188, 8),   // 220, edition 3; 22 at element 3 but at edition 0
+        shader(&psv0_stage(32, 5)),           // 112, edition 0, where the 5 is no stage
+    ]
+}
+
+/// The figures of that list at an edition.
+fn worked_figures(edition: Edition) -> Figures {
+    let (refusals, stages) = match edition {
+        0 => (&[1, 8][..], &[][..]),
+        1 | 2 => (&[1, 8, 15, 22][..], &[(0, 1), (5, 3), (13, 1), (15, 1)][..]),
+        3 => (&[1, 8, 15, 22, 24][..], &[(0, 1), (5, 2), (13, 1), (15, 1)][..]),
+        _ => return Figures { opened: 13, refused: 13, refusals: counts(&[(25, 13)]), ..Figures::start(edition) },
+    };
+    let refusals: Vec<(usize, u16)> = refusals.iter().map(|number| (*number, 1)).collect();
+    Figures {
+        edition,
+        bytes: [1548, 1212, 1212, 1076][edition],
+        opened: 13,
+        accepted: [11, 9, 9, 8][edition],
+        refused: [2, 4, 4, 5][edition],
+        refusals: counts(&refusals),
+        editions: [[3, 2, 1, 5], [3, 1, 1, 4], [3, 1, 1, 4], [3, 1, 1, 3]][edition],
+        stages: counts(stages),
+        unset: [11, 3, 3, 3][edition],
+    }
+}
+
+/// What opening the containers of that list at an edition gives.
+fn worked_answers(edition: Edition) -> [Added; 13] {
+    let mut answers = [ACCEPTED; 13];
+    (answers[3], answers[4]) = (counted(1, 0), counted(8, 1));
+    if edition > 0 {
+        (answers[8], answers[11]) = (counted(15, 0), counted(22, 3));
+    }
+    if edition == 3 {
+        answers[2] = counted(24, 0);
+    }
+    if edition > 3 {
+        answers = [counted(25, 0); 13];
+    }
+    answers
+}
+
+const ACCEPTED: Added = Added::Counted(Ok(()));
+
+fn counted(number: u8, place: usize) -> Added {
+    Added::Counted(refused(number, place))
+}
+
+/// Counts of which these are set.
+fn counts<const N: usize>(set: &[(usize, u16)]) -> [u16; N] {
+    let mut counts = [0; N];
+    for (i, count) in set {
+        counts[*i] = *count;
+    }
+    counts
+}
+
+/// The 52 counts of figures, in the order of the fields.
+fn counts_of(figures: &Figures) -> [u16; 52] {
+    let Figures { opened, accepted, refused, refusals, editions, stages, unset, .. } = figures;
+    [&[*opened, *accepted, *refused][..], refusals, editions, stages, &[*unset]].concat().try_into().unwrap()
+}
+
+fn with_counts(edition: Edition, bytes: u64, counts: [u16; 52]) -> Figures {
+    Figures {
+        edition,
+        bytes,
+        opened: counts[0],
+        accepted: counts[1],
+        refused: counts[2],
+        refusals: counts[3..31].try_into().unwrap(),
+        editions: counts[31..35].try_into().unwrap(),
+        stages: counts[35..51].try_into().unwrap(),
+        unset: counts[51],
+    }
+}
+
+/// Figures that no list gives, every count another number, in the ways 0 and 1; any two of one edition join.
+fn made_up(edition: Edition, way: u16) -> Figures {
+    let count = |k| 0x1101 + 0x0203 * k + way * (0x0102 + k);
+    with_counts(edition, 0x0123_4567_89ab_cdef + u64::from(way), std::array::from_fn(|k| count(k as u16)))
+}
+
+/// Editions to count at; two above 3 are two editions.
+const EDITIONS: [Edition; 9] = [0, 1, 2, 3, 4, 5, 256, 1 << 32, usize::MAX];
+
+/// One container more by the rules, from what opening it shows.
+fn ruled_add(figures: &mut Figures, bytes: &[u8]) -> Added {
+    if figures.opened == 65_535 {
+        return Added::Full;
+    }
+    let one_more = |count: &mut u16| *count = count.saturating_add(1);
+    let opening = Container::open(bytes, figures.edition);
+    one_more(&mut figures.opened);
+    match &opening {
+        Ok(container) => {
+            one_more(&mut figures.accepted);
+            one_more(&mut figures.editions[container.file_edition()]);
+            one_more(match container.runtime().stage {
+                Some(stage) => &mut figures.stages[stage as usize],
+                None => &mut figures.unset,
+            });
+            figures.bytes = figures.bytes.saturating_add(bytes.len() as u64);
+        }
+        Err(refusal) => {
+            one_more(&mut figures.refused);
+            one_more(&mut figures.refusals[usize::from(refusal.number)]);
+        }
+    }
+    Added::Counted(opening.map(|_| ()))
+}
+
+fn ruled_join(figures: &mut Figures, more: &Figures) -> Joined {
+    if figures.edition != more.edition {
+        return Joined::OtherEdition;
+    }
+    if u32::from(figures.opened) + u32::from(more.opened) > 65_535 {
+        return Joined::Full;
+    }
+    let (counts, more_counts) = (counts_of(figures), counts_of(more));
+    let bytes = figures.bytes.saturating_add(more.bytes);
+    *figures = with_counts(figures.edition, bytes, std::array::from_fn(|k| counts[k].saturating_add(more_counts[k])));
+    Joined::Joined
+}
+
+/// The safe and the plain call, both by the rules.
+fn add(figures: &mut Figures, bytes: &[u8]) -> Added {
+    let mut ruled = *figures;
+    let expected = ruled_add(&mut ruled, bytes);
+    let (answer, number, place) = match expected {
+        Added::Counted(Ok(())) => (0, 0, 0),
+        Added::Counted(Err(refusal)) => (0, usize::from(refusal.number), refusal.place),
+        Added::Full => (1, 0, 0),
+    };
+    let plain = raw::FiguresAdded { answer, verdict: raw::Verdict { number, place }, figures: ruled };
+    assert_eq!(raw::figures_add(*figures, bytes), plain);
+    assert_eq!((figures.add(bytes), *figures), (expected, ruled));
+    expected
+}
+
+fn join(figures: &mut Figures, more: &Figures) -> Joined {
+    let mut ruled = *figures;
+    let expected = ruled_join(&mut ruled, more);
+    let answer = match expected {
+        Joined::Joined => 0,
+        Joined::Full => 1,
+        Joined::OtherEdition => 2,
+    };
+    assert_eq!(raw::figures_join(*figures, *more), raw::FiguresJoined { answer, figures: ruled });
+    assert_eq!((figures.join(more), *figures), (expected, ruled));
+    expected
+}
+
+/// The figures of a list, all of which is counted.
+fn figures_of<'a>(edition: Edition, files: impl IntoIterator<Item = &'a Vec<u8>>) -> Figures {
+    let mut figures = Figures::start(edition);
+    for file in files {
+        assert_ne!(add(&mut figures, file), Added::Full);
+    }
+    figures
+}
+
+/// Figures joined one after the other.
+fn joined(list: &[Figures]) -> Figures {
+    let mut all = list[0];
+    for more in &list[1..] {
+        assert_eq!(join(&mut all, more), Joined::Joined);
+    }
+    all
+}
+
+/// A container by itself gives these figures, and raises made-up ones by them, up to the greatest number of each count and of the sum.
+fn counts_as(bytes: &[u8], one: Figures) {
+    let raised = |mut figures: Figures| {
+        assert_ne!(add(&mut figures, bytes), Added::Full);
+        figures
+    };
+    assert_eq!(raised(Figures::start(one.edition)), one);
+    for (k, number) in (1..52).flat_map(|k| [65_533, 65_534, 65_535].map(|number| (k, number))) {
+        let mut numbers = counts_of(&made_up(one.edition, 0));
+        numbers[k] = number;
+        let after = raised(with_counts(one.edition, 7, numbers));
+        assert_eq!(counts_of(&after)[k], number.saturating_add(counts_of(&one)[k]), "{k}");
+    }
+    let len = bytes.len() as u64;
+    for room in [0, 1, len.saturating_sub(1), len, len + 1, u64::MAX] {
+        let after = raised(Figures { bytes: u64::MAX - room, ..made_up(one.edition, 0) });
+        assert_eq!(after.bytes, (u64::MAX - room).saturating_add(one.bytes));
+    }
+}
+
+#[test]
+fn figures_of_a_worked_list() {
+    assert_eq!(Figures::MOST, 65_535);
+    let list = worked();
+    for edition in EDITIONS {
+        assert_eq!(Figures::start(edition), with_counts(edition, 0, [0; 52]));
+        assert_eq!(raw::figures_start(edition), Figures::start(edition));
+        let mut figures = Figures::start(edition);
+        let answers = list.each_ref().map(|file| add(&mut figures, file));
+        assert_eq!((answers, figures), (worked_answers(edition), worked_figures(edition)));
+        assert_eq!(figures_of(edition, list.iter().rev()), figures);
+        // Every way to split the list in three.
+        for (first, second) in (0..=13).flat_map(|second| (0..=second).map(move |first| (first, second))) {
+            let [a, b, c] = [&list[..first], &list[first..second], &list[second..]].map(|list| figures_of(edition, list));
+            assert_eq!([joined(&[a, b, c]), joined(&[c, a, b]), joined(&[a, joined(&[b, c])])], [figures; 3]);
+        }
+    }
+    // Six of them in every order: the digits of the number say which of the rest is next.
+    let six = [1, 2, 3, 4, 6, 7].map(|i| &list[i]);
+    let in_order = figures_of(1, six);
+    assert_eq!((in_order.accepted, in_order.refused, in_order.bytes), (4, 2, 516));
+    for number in 0..720 {
+        let mut rest = six.to_vec();
+        let order = (1..=6).rev().scan(number, |digits, count| {
+            let next = rest.remove(*digits % count);
+            *digits /= count;
+            Some(next)
+        });
+        assert_eq!(figures_of(1, order), in_order, "{number}");
+    }
+}
+
+#[test]
+fn figures_count_the_files_edition_and_the_stage_read() {
+    let sizes = [(28, 0), (32, 0), (36, 1), (44, 1), (48, 2), (52, 3), (56, 3), (100, 3)];
+    for edition in 0..=3 {
+        let mut all = Figures::start(edition);
+        for (s, file_edition) in sizes {
+            for stage in 0..16 {
+                let bytes = shader(&psv0_stage(s, stage));
+                let mut expected = Figures { opened: 1, accepted: 1, bytes: 80 + s as u64, ..Figures::start(edition) };
+                expected.editions[file_edition] = 1;
+                *(if edition.min(file_edition) == 0 { &mut expected.unset } else { &mut expected.stages[usize::from(stage)] }) = 1;
+                counts_as(&bytes, expected);
+                assert_eq!(add(&mut all, &bytes), ACCEPTED);
+            }
+        }
+        let (stages, unset) = if edition == 0 { ([0; 16], 128) } else { ([6; 16], 32) };
+        let start = Figures::start(edition);
+        let expected = Figures { opened: 128, accepted: 128, bytes: 16_576, editions: [32, 32, 16, 48], stages, unset, ..start };
+        assert_eq!(all, expected);
+    }
+}
+
+/// A number put into the container of the names A and BC, and what reader 3 then gives; at 52 the name DXIL and none.
+const FAULTS: [(usize, u32, u8, usize); 22] = [
+    (0, 0, 3, 0),
+    (20, 2, 4, 0),
+    (24, 221, 5, 0),
+    (28, 97, 6, 0),
+    (28, 96, 7, 0),
+    (36, 51, 8, 1),
+    (52, 0x4c49_5844, 9, 1),
+    (40, 0, 10, 0),
+    (52, 0, 11, 0),
+    (60, 26, 12, 0),
+    (60, 400, 13, 0),
+    (116, 1, 14, 0),
+    (88, 16, 15, 0),
+    (88, 0x020d, 16, 0),
+    (96, 0x0100, 17, 0),
+    (120, 7, 18, 0),
+    (132, 1000, 19, 0),
+    (136, 15, 20, 0),
+    (88, 0x0001_010d, 21, 0),
+    (188, 8, 22, 3),
+    (212, 1, 23, 4),
+    (112, 8, 24, 0),
+];
+
+/// What such a container gives at an edition, and its figures: 15 to 23 are judged from edition 1 on, 24 at 3, and at 4 nothing is.
+fn with_fault(edition: Edition, number: u8, place: usize) -> (Added, Figures) {
+    let mut one = Figures { opened: 1, ..Figures::start(edition) };
+    if number < 15 || (edition > 0 && number < 24) || edition >= 3 {
+        let (number, place) = if edition > 3 { (25, 0) } else { (number, place) };
+        one.refused = 1;
+        one.refusals[usize::from(number)] = 1;
+        return (counted(number, place), one);
+    }
+    (one.accepted, one.bytes, one.editions[3]) = (1, 220, 1);
+    *(if edition == 0 { &mut one.unset } else { &mut one.stages[13] }) = 1;
+    (ACCEPTED, one)
+}
+
+#[test]
+fn figures_count_every_refusal() {
+    let good = shader(&psv0_s());
+    assert_eq!((good.len(), Container::open(&good, 3).unwrap().runtime().stage), (220, Some(13)));
+    let longer = changed([&longest()[..], &[0]].concat(), 24, 16_777_217);
+    let mut files = vec![(good[..31].to_vec(), 1, 0), (longer, 2, 0)];
+    files.extend(FAULTS.map(|(at, fault, number, place)| (changed(good.clone(), at, fault), number, place)));
+    for edition in 0..=4 {
+        let mut all = Figures::start(edition);
+        for (bytes, number, place) in &files {
+            let (answer, one) = with_fault(edition, *number, *place);
+            counts_as(bytes, one);
+            assert_eq!(add(&mut all, bytes), answer);
+        }
+        // The numbers from 1 on, once each.
+        let last = [14, 23, 23, 24, 0][edition];
+        let once: Vec<_> = (1..=last).map(|number| (number, 1)).chain((edition == 4).then_some((25, 24))).collect();
+        let accepted = [10, 1, 1, 0, 0][edition];
+        let expected = Figures {
+            edition,
+            bytes: 220 * u64::from(accepted),
+            opened: 24,
+            accepted,
+            refused: 24 - accepted,
+            refusals: counts(&once),
+            editions: [0, 0, 0, accepted],
+            stages: counts(&[(13, [0, 1, 1, 0, 0][edition])]),
+            unset: [10, 0, 0, 0, 0][edition],
+        };
+        assert_eq!(all, expected);
+    }
+}
+
+#[test]
+fn figures_are_full_after_65_535_containers() {
+    let list = worked();
+    let longest = longest();
+    let [mut listed, mut long, mut nothing] = [1, 3, 0].map(Figures::start);
+    for i in 1..=65_537 {
+        let file = &list[(i - 1) % 13];
+        let before = [listed, long, nothing];
+        let answers = [add(&mut listed, file), add(&mut long, &longest), add(&mut nothing, &[])];
+        if i <= 65_535 {
+            assert_eq!(answers, [worked_answers(1)[(i - 1) % 13], ACCEPTED, counted(1, 0)]);
+            assert_eq!([listed, long, nothing].map(|figures| usize::from(figures.opened)), [i; 3]);
+        } else {
+            assert_eq!((answers, [listed, long, nothing]), ([Added::Full; 3], before));
+        }
+    }
+    // The list 5041 times and two containers of it more.
+    let expected = Figures {
+        edition: 1,
+        bytes: 5041 * 1212 + 92 + 136,
+        opened: 65_535,
+        accepted: 45_371,
+        refused: 20_164,
+        refusals: counts(&[(1, 5041), (8, 5041), (15, 5041), (22, 5041)]),
+        editions: [15_124, 5041, 5041, 20_165],
+        stages: counts(&[(0, 5041), (5, 15_124), (13, 5041), (15, 5041)]),
+        unset: 15_124,
+    };
+    assert_eq!(listed, expected);
+    let [opened, accepted, refused, unset] = [65_535; 4];
+    let editions = [65_535, 0, 0, 0];
+    assert_eq!(long, Figures { opened, accepted, bytes: 1_099_494_850_560, editions, unset, ..Figures::start(3) });
+    assert_eq!(nothing, Figures { opened, refused, refusals: counts(&[(1, 65_535)]), ..Figures::start(0) });
+    // Full figures join none that have one, and any that have none.
+    let one = figures_of(1, [&list[3]]);
+    assert_eq!((join(&mut listed, &one), join(&mut listed, &Figures::start(1)), listed), (Joined::Full, Joined::Joined, expected));
+}
+
+#[test]
+fn made_up_figures_stay_at_the_greatest_numbers() {
+    let list = worked();
+    for edition in EDITIONS {
+        for file in &list {
+            // The number opened alone decides; what an opening never gives is kept.
+            for opened in 65_533..=65_535 {
+                let mut figures = Figures { opened, ..made_up(edition, 0) };
+                let before = figures;
+                let full = add(&mut figures, file) == Added::Full;
+                assert_eq!((full, full), (opened == 65_535, figures == before));
+                let kept = |figures: &Figures| [0, 26, 27].map(|number| figures.refusals[number]);
+                assert_eq!((kept(&figures), figures.edition), (kept(&before), edition));
+                let mut only_opened = Figures { opened, ..Figures::start(edition) };
+                assert_eq!(add(&mut only_opened, file) == Added::Full, full);
+                let mut all_others = Figures { opened, ..with_counts(edition, u64::MAX, [65_535; 52]) };
+                assert_eq!(add(&mut all_others, file) == Added::Full, full);
+                assert_eq!(all_others, Figures { opened: opened.saturating_add(1), ..with_counts(edition, u64::MAX, [65_535; 52]) });
+            }
+        }
+    }
+    let pairs = [
+        (65_535, 0, 65_535),
+        (0, 65_535, 65_535),
+        (65_534, 1, 65_535),
+        (65_533, 1, 65_534),
+        (65_535, 1, 65_535),
+        (1, 65_535, 65_535),
+        (65_534, 2, 65_535),
+        (32_768, 32_768, 65_535),
+        (65_535, 65_535, 65_535),
+        (255, 1, 256),
+    ];
+    for (k, (first, second, sum)) in (1..52).flat_map(|k| pairs.map(|pair| (k, pair))) {
+        let [mut a, mut b] = [0, 1].map(|way| counts_of(&made_up(2, way)));
+        (a[k], b[k]) = (first, second);
+        let mut figures = with_counts(2, 7, a);
+        assert_eq!((join(&mut figures, &with_counts(2, 8, b)), counts_of(&figures)[k]), (Joined::Joined, sum), "{k}");
+        assert_eq!(figures.bytes, 15);
+    }
+    let half = 1 << 63;
+    let sums = [
+        (u64::MAX, 0, u64::MAX),
+        (0, u64::MAX, u64::MAX),
+        (u64::MAX, 1, u64::MAX),
+        (1, u64::MAX, u64::MAX),
+        (u64::MAX - 1, 1, u64::MAX),
+        (u64::MAX - 2, 1, u64::MAX - 1),
+        (half, half, u64::MAX),
+        (half - 1, half, u64::MAX),
+        (u64::MAX, u64::MAX, u64::MAX),
+        (0xffff_ffff, 1, 1 << 32),
+    ];
+    for (first, second, bytes) in sums {
+        let mut figures = Figures { bytes: first, ..made_up(0, 0) };
+        assert_eq!((join(&mut figures, &Figures { bytes: second, ..made_up(0, 1) }), figures.bytes), (Joined::Joined, bytes));
+    }
+}
+
+#[test]
+fn figures_are_joined() {
+    // The editions are looked at first, then the sum of the numbers opened.
+    let pairs = [
+        (0, 0, Joined::Joined),
+        (0, 65_535, Joined::Joined),
+        (65_535, 0, Joined::Joined),
+        (1, 65_534, Joined::Joined),
+        (65_534, 1, Joined::Joined),
+        (32_767, 32_768, Joined::Joined),
+        (1, 65_535, Joined::Full),
+        (65_535, 1, Joined::Full),
+        (2, 65_534, Joined::Full),
+        (32_768, 32_768, Joined::Full),
+        (65_535, 65_535, Joined::Full),
+    ];
+    for (edition, other) in EDITIONS.iter().flat_map(|edition| EDITIONS.map(|other| (*edition, other))) {
+        for (opened, more_opened, answer) in pairs {
+            let first = Figures { opened, ..made_up(edition, 0) };
+            let more = Figures { opened: more_opened, ..made_up(other, 1) };
+            let mut figures = first;
+            let answer = if edition == other { answer } else { Joined::OtherEdition };
+            assert_eq!(join(&mut figures, &more), answer);
+            if answer != Joined::Joined {
+                assert_eq!(figures, first);
+            } else {
+                let mut other_way = more;
+                assert_eq!((join(&mut other_way, &first), other_way), (Joined::Joined, figures));
+            }
+        }
+    }
+    // Every count is summed, those that an opening never raises too. The last fields of the structs.
+    let mut both = made_up(3, 0);
+    assert_eq!(both.join(&made_up(3, 1)), Joined::Joined);
+    let expected = std::array::from_fn(|k| (2 * (0x1101 + 0x0203 * k) + 0x0102 + k) as u16);
+    assert_eq!(both, with_counts(3, 0x0246_8acf_1357_9bdf, expected));
+    let unset = 2 * (0x1101 + 0x0203 * 51) + 0x0102 + 51;
+    assert_eq!(raw::figures_join(made_up(3, 0), made_up(3, 1)).figures.unset, unset);
+    assert_eq!(raw::figures_add(both, &worked()[0]).figures.unset, unset + 1);
+    assert_eq!(raw::figures_add(both, &[]).verdict, raw::Verdict { number: 1, place: 0 });
+    let full = Figures { opened: 65_535, ..both };
+    assert_eq!(raw::figures_add(full, &[]), raw::FiguresAdded { answer: 1, verdict: raw::Verdict { number: 0, place: 0 }, figures: full });
+    assert_eq!(raw::figures_start(3).unset, 0);
+    // The worked list twice.
+    let mut twice = worked_figures(3);
+    assert_eq!(twice.join(&worked_figures(3)), Joined::Joined);
+    let expected = Figures {
+        edition: 3,
+        bytes: 2152,
+        opened: 26,
+        accepted: 16,
+        refused: 10,
+        refusals: counts(&[(1, 2), (8, 2), (15, 2), (22, 2), (24, 2)]),
+        editions: [6, 2, 2, 6],
+        stages: counts(&[(0, 2), (5, 4), (13, 2), (15, 2)]),
+        unset: 6,
+    };
+    assert_eq!(twice, expected);
 }

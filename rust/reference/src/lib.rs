@@ -1,8 +1,9 @@
 //! A reader and writer of DirectX containers and their PSV0 part, a reader of the
-//! DXIL part's header, of the signature parts and of the root signature, and a
-//! reader and writer of settings files, written from documents 000, 001 and 01 and
-//! requests 1 to 3 and 5 to 9 of 02 alone. It is a second opinion: every rule stands
-//! here as directly as it can be said, so that another reader can be held against it.
+//! DXIL part's header, of the signature parts and of the root signature, a reader and
+//! writer of settings files, and counts over a list of containers, written from
+//! documents 000, 001 and 01 and requests 1 to 3 and 5 to 10 of 02 alone. It is a second
+//! opinion: every rule stands here as directly as it can be said, so that another reader
+//! can be held against it.
 //!
 //! * [`table`] reads the part table (refusals 1 to 9), [`table_part`] and
 //!   [`table_part_occurrence`] one part of it (26), [`after_last_part`] what follows.
@@ -25,11 +26,14 @@
 //! * [`settings`] reads a settings file (refusals 53 to 60) and gives [`Settings`],
 //!   whose methods are the queries (26), [`write_settings`] writes one, and
 //!   [`show_settings`] prints one with its values at a version.
+//! * [`Figures`] counts what the openings of a list of containers gave, and
+//!   [`show_figures`] prints the figures of a list of files.
 
 #![forbid(unsafe_code)]
 // Sizes are judged with the words of the papers: `% 4`, `(v + 7) / 8`.
 #![allow(clippy::manual_div_ceil, clippy::manual_is_multiple_of)]
 
+mod figures;
 mod inspect;
 mod program;
 mod psv0;
@@ -41,6 +45,7 @@ mod table;
 mod utf8;
 mod write;
 
+pub use figures::{show_figures, Added, Figures, Joined};
 pub use inspect::inspect;
 pub use program::{program, program_report, Program, ProgramReport, Stages};
 pub use psv0::{

@@ -2,6 +2,7 @@
 //! small generator of repeatable numbers.
 #![allow(dead_code)]
 
+pub mod hostile;
 pub mod settings;
 
 use reference::{Part, Refusal, Text};

@@ -1,6 +1,6 @@
 //! What the programs share: reading up to the limit, and the lines of those that take
 //! a number and a file.
-// The small program only reads.
+// The small program and that of the figures only read.
 #![allow(dead_code)]
 
 use reference::LONGEST_READ;
