@@ -901,6 +901,97 @@ static void figures(const std::filesystem::path &folder) {
     printf("%-24s %11.1f, copying figures (%zu bytes) %.1f\n", "join", t[0], sizeof one, t[1]);
 }
 
+// Queries by places beside those that open the bytes, each the worst over the real shaders; and the same by places with the shader's PSV0 part in a
+// container of 16 MB.
+static void places(const std::filesystem::path &folder) {
+    struct Row {
+        std::string name;
+        std::vector<double> by, fresh, large;
+    };
+    std::vector<Row> rows;
+    for (auto &entry : std::filesystem::directory_iterator(folder)) {
+        Bytes b = load(entry.path());
+        auto o = qollqamir_open_places(b.data(), b.size(), 3);
+        if (o.verdict.number != 0)
+            continue;
+        // The same container with more bytes at its end.
+        Bytes l = b;
+        l.resize(16777216);
+        for (size_t i = 0; i < 4; i++)
+            l[24 + i] = static_cast<uint8_t>(l.size() >> (8 * i));
+        auto large = qollqamir_open_places(l.data(), l.size(), 3).places;
+        require(memcmp(&large, &o.places, sizeof large) == 0, "other places");
+        size_t row = 0;
+        auto add = [&](const std::string &name, auto by, auto fresh) {
+            auto call = by;
+            auto t = measure({repeat([&] { return call(b); }), repeat([&] { return fresh(); }), repeat([&] { return call(l); })});
+            if (rows.size() == row)
+                rows.push_back({name, {}, {}, {}});
+            rows[row].by.push_back(t[0]);
+            rows[row].fresh.push_back(t[1]);
+            rows[row].large.push_back(t[2]);
+            row++;
+        };
+        auto p = o.places;
+        add("runtime info", [&](const Bytes &x) { return qollqamir_places_runtime_info(x.data(), x.size(), p); },
+            [&] { return qollqamir_runtime_info(b.data(), b.size(), 3); });
+        add("resource 0", [&](const Bytes &x) { return qollqamir_places_resource(x.data(), x.size(), p, 0); },
+            [&] { return qollqamir_resource(b.data(), b.size(), 3, 0); });
+        add("element 0", [&](const Bytes &x) { return qollqamir_places_element(x.data(), x.size(), p, 0); },
+            [&] { return qollqamir_element(b.data(), b.size(), 3, 0); });
+        add("lengths", [&](const Bytes &x) { return qollqamir_places_lengths(x.data(), x.size(), p); },
+            [&] { return qollqamir_lengths(b.data(), b.size(), 3); });
+        auto view = [&](const std::string &name, uint32_t kind, size_t number) {
+            add(name, [&, kind, number](const Bytes &x) { return qollqamir_places_view(x.data(), x.size(), p, kind, number); },
+                [&, kind, number] { return qollqamir_view(b.data(), b.size(), 3, kind, number); });
+        };
+        view("string of element 0", QOLLQAMIR_ELEMENT_STRING, 0);
+        view("string of element 1", QOLLQAMIR_ELEMENT_STRING, 1);
+        view("string of element 2", QOLLQAMIR_ELEMENT_STRING, 2);
+        view("array of element 0", QOLLQAMIR_ELEMENT_ARRAY, 0);
+        view("stage union", QOLLQAMIR_STAGE_UNION, 0);
+        for (size_t m : {0, 4, 5, 8, 9, 10})
+            view("mask " + std::to_string(m), QOLLQAMIR_MASK, m);
+        add("masks, handed out", [&](const Bytes &x) { return qollqamir_places_section(x.data(), x.size(), p, QOLLQAMIR_MASKS); },
+            [&] { return qollqamir_section(b.data(), b.size(), 3, QOLLQAMIR_MASKS); });
+        add("open with places", [&](const Bytes &x) { return qollqamir_open_places(x.data(), x.size(), 3); },
+            [&] { return qollqamir_open(b.data(), b.size(), 3); });
+    }
+    printf("\nby places, ns a call, the greatest over the real shaders\n");
+    printf("%-24s %11s %11s %11s\n", "", "by places", "opening", "in 16 MB");
+    for (auto &r : rows) {
+        printf("%-24s", r.name.c_str());
+        cell(*std::max_element(r.by.begin(), r.by.end()));
+        cell(*std::max_element(r.fresh.begin(), r.fresh.end()));
+        cell(*std::max_element(r.large.begin(), r.large.end()));
+        printf("\n");
+    }
+}
+
+// Replacing the PSV0 part of a real shader by itself, and that of a container of 16 MB, beside copying as many bytes.
+static void replacing(const std::filesystem::path &folder) {
+    printf("\nreplacing PSV0 by itself, ns a call\n");
+    printf("%-24s %9s %11s %11s\n", "", "bytes", "replace", "copy");
+    Bytes shader = load(folder / "sdl_D3D12_VertexShader_YUV.dxbc");
+    Bytes large = shader;
+    large.resize(16777216);
+    for (size_t i = 0; i < 4; i++)
+        large[24 + i] = static_cast<uint8_t>(large.size() >> (8 * i));
+    const uint8_t *name = reinterpret_cast<const uint8_t *>("PSV0");
+    for (auto *b : {&shader, &large}) {
+        auto part = qollqamir_part(b->data(), b->size(), 3, name);
+        Bytes data(b->begin() + part.offset + 8, b->begin() + part.offset + 8 + part.size), out(b->size());
+        auto r = qollqamir_replace_psv0(b->data(), b->size(), 3, data.data(), data.size(), out.data(), out.size());
+        require(r.verdict.number == 0 && r.len == b->size() && out == *b, "the shader is not replaced by itself");
+        auto t = measure({repeat([&] { return qollqamir_replace_psv0(b->data(), b->size(), 3, data.data(), data.size(), out.data(), out.size()); }),
+                          repeat([&] { return memcpy(out.data(), b->data(), b->size()); })});
+        printf("%-24s %9zu", b == &shader ? "a vertex shader" : "the same, 16 MB long", b->size());
+        cell(t[0]);
+        cell(t[1]);
+        printf("\n");
+    }
+}
+
 // What handing back 1,944 bytes costs: the table of a file that the first check refuses, beside a call that hands back 40.
 static void handing_back(const std::filesystem::path &shader) {
     Bytes b = load(shader);
@@ -1056,4 +1147,6 @@ int main(int argc, char **argv) {
     roots();
     settings();
     figures(folder);
+    places(folder);
+    replacing(folder);
 }

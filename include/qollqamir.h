@@ -62,6 +62,38 @@ typedef struct {
     size_t edition_read;
 } qollqamir_opening;
 
+/* What an opening keeps of PSV0, for queries by places: the edition read; of each section the place of its first byte after its counts and sizes, its
+   count and its record size; of the masks the place of the first and the 4-byte words of each; and the stage. Places count from the first
+   byte that was opened, the container's or the PSV0 data's. The runtime record has the size of its edition, 24, 36, 48 or 52 bytes. A list without
+   records has record size 0; at edition read 0 the stage and sections 3 to 6 (strings to masks) have zeros. Plain data that a caller may keep, copy
+   and compare. */
+typedef struct {
+    uint32_t edition;
+    uint32_t runtime;
+    uint32_t resources;
+    uint32_t resource_count;
+    uint32_t resource_size;
+    uint32_t strings;
+    uint32_t string_bytes;
+    uint32_t indices;
+    uint32_t index_count;
+    uint32_t elements;
+    uint32_t element_count;
+    uint32_t element_size;
+    uint32_t masks;
+    uint32_t mask_words[11];
+    uint32_t stage;
+} qollqamir_places;
+
+/* An opening with its places: the number of parts (0 for PSV0 data alone), the file's edition and the edition read. */
+typedef struct {
+    qollqamir_verdict verdict;
+    uint32_t parts;
+    uint32_t file_edition;
+    uint32_t edition_read;
+    qollqamir_places places;
+} qollqamir_opened;
+
 /* The fields of the runtime record; the stage union is view 0. */
 typedef struct {
     qollqamir_verdict verdict;
@@ -139,6 +171,13 @@ typedef struct {
     qollqamir_verdict verdict;
     size_t len;
 } qollqamir_written;
+
+/* A container with other PSV0 data: its length, 0 beside a refusal, and the places of its PSV0 sections. */
+typedef struct {
+    qollqamir_verdict verdict;
+    uint32_t len;
+    qollqamir_places places;
+} qollqamir_replaced;
 
 /* The fields of the program header of a DXIL part and of the bitcode header in it. words is the size in 4-byte units; the bitcode's offset
    counts from the bitcode header's start, byte 8 of the data. Both are shown as they stand. */
@@ -363,6 +402,22 @@ QOLLQAMIR_NO_PADDING(qollqamir_found,
 QOLLQAMIR_NO_PADDING(qollqamir_opening,
                      QOLLQAMIR_SIZE(qollqamir_opening, verdict) + QOLLQAMIR_SIZE(qollqamir_opening, parts) +
                      QOLLQAMIR_SIZE(qollqamir_opening, file_edition) + QOLLQAMIR_SIZE(qollqamir_opening, edition_read));
+QOLLQAMIR_NO_PADDING(qollqamir_places,
+                     QOLLQAMIR_SIZE(qollqamir_places, edition) + QOLLQAMIR_SIZE(qollqamir_places, runtime) +
+                     QOLLQAMIR_SIZE(qollqamir_places, stage) + QOLLQAMIR_SIZE(qollqamir_places, resources) +
+                     QOLLQAMIR_SIZE(qollqamir_places, resource_count) + QOLLQAMIR_SIZE(qollqamir_places, resource_size) +
+                     QOLLQAMIR_SIZE(qollqamir_places, strings) + QOLLQAMIR_SIZE(qollqamir_places, string_bytes) +
+                     QOLLQAMIR_SIZE(qollqamir_places, indices) + QOLLQAMIR_SIZE(qollqamir_places, index_count) +
+                     QOLLQAMIR_SIZE(qollqamir_places, elements) + QOLLQAMIR_SIZE(qollqamir_places, element_count) +
+                     QOLLQAMIR_SIZE(qollqamir_places, element_size) + QOLLQAMIR_SIZE(qollqamir_places, masks) +
+                     QOLLQAMIR_SIZE(qollqamir_places, mask_words));
+QOLLQAMIR_NO_PADDING(qollqamir_opened,
+                     QOLLQAMIR_SIZE(qollqamir_opened, verdict) + QOLLQAMIR_SIZE(qollqamir_opened, parts) +
+                     QOLLQAMIR_SIZE(qollqamir_opened, file_edition) + QOLLQAMIR_SIZE(qollqamir_opened, edition_read) +
+                     QOLLQAMIR_SIZE(qollqamir_opened, places));
+QOLLQAMIR_NO_PADDING(qollqamir_replaced,
+                     QOLLQAMIR_SIZE(qollqamir_replaced, verdict) + QOLLQAMIR_SIZE(qollqamir_replaced, len) +
+                     QOLLQAMIR_SIZE(qollqamir_replaced, places));
 QOLLQAMIR_NO_PADDING(qollqamir_info,
                      QOLLQAMIR_SIZE(qollqamir_info, verdict) + QOLLQAMIR_SIZE(qollqamir_info, minimum_wave_lanes) +
                      QOLLQAMIR_SIZE(qollqamir_info, maximum_wave_lanes) + QOLLQAMIR_SIZE(qollqamir_info, stage) +
@@ -575,6 +630,24 @@ qollqamir_list_lengths qollqamir_psv0_lengths(const uint8_t *data, size_t len, s
 qollqamir_span qollqamir_psv0_view(const uint8_t *data, size_t len, size_t edition, uint32_t kind, size_t number);
 qollqamir_span qollqamir_psv0_section(const uint8_t *data, size_t len, size_t edition, uint32_t section);
 
+/* The same openings, with the places of the PSV0 sections. Many queries then cost one opening: each of the calls below takes the bytes and the
+   places, and opens nothing. For the bytes that the places were made from it gives what the query on the bytes gives.
+   Any other bytes and made-up places get an answer too, and no number of them wraps: 26 and lengths go by the places alone (an edition above 3 counts
+   as 3, and the recorded stage decides which fields of the runtime record are set); then 29 where what the query needs doesn't lie inside the
+   bytes or a reference on its way isn't good. It needs: the runtime info and the stage union, the runtime record of the recorded edition; a resource,
+   its 24 bytes where edition and record size are at least 2 and 24, else 16; an element, its 16; a string, its element's 16 and the whole
+   recorded string table; an index array, its element's 16 and the whole recorded index table; the entry name, the runtime record and the whole string
+   table; a mask, its own words; a section, its bytes; the lengths nothing: their bytes aren't looked at. What is empty must not start past the end
+   either. */
+qollqamir_opened qollqamir_open_places(const uint8_t *bytes, size_t len, size_t edition);
+qollqamir_opened qollqamir_psv0_open_places(const uint8_t *data, size_t len, size_t edition);
+qollqamir_info qollqamir_places_runtime_info(const uint8_t *bytes, size_t len, qollqamir_places places);
+qollqamir_resource_record qollqamir_places_resource(const uint8_t *bytes, size_t len, qollqamir_places places, size_t i);
+qollqamir_element_record qollqamir_places_element(const uint8_t *bytes, size_t len, qollqamir_places places, size_t i);
+qollqamir_list_lengths qollqamir_places_lengths(const uint8_t *bytes, size_t len, qollqamir_places places);
+qollqamir_span qollqamir_places_view(const uint8_t *bytes, size_t len, qollqamir_places places, uint32_t kind, size_t number);
+qollqamir_span qollqamir_places_section(const uint8_t *bytes, size_t len, qollqamir_places places, uint32_t section);
+
 /* The program header and the bitcode, of the data of a DXIL part alone: 40 (under 24 bytes), 41 (wrong mark), 42 (the bitcode ends past the
    data). */
 qollqamir_program_data qollqamir_dxil_program(const uint8_t *data, size_t len);
@@ -684,6 +757,14 @@ qollqamir_written qollqamir_write_psv0(size_t edition, const uint8_t *runtime, s
 qollqamir_written qollqamir_assemble(const uint8_t *names, size_t names_len, const uint32_t *sizes, size_t sizes_len,
                                      const uint8_t *data, size_t data_len, const uint8_t *digest, size_t digest_len, uint8_t *out,
                                      size_t out_len);
+
+/* A container with other PSV0 data, in plain form, in the place of its own: every byte outside them is kept, the digest, gaps and trailing bytes
+   too, but the file size, the part's size and the offsets of the parts after it; what follows moves, and nothing is aligned anew. What
+   qollqamir_open gives for the bytes at the edition; what qollqamir_psv0_open gives for the part at edition 3; 27 where it isn't in plain form;
+   2 for a result that is too long; 28. The places are those of qollqamir_open_places on the result at the edition. On a refusal out keeps every
+   byte, and the places are zeros: those that a caller keeps for the bytes stay good for them. Bytes past the result keep their contents. */
+qollqamir_replaced qollqamir_replace_psv0(const uint8_t *bytes, size_t len, size_t edition, const uint8_t *part, size_t part_len,
+                                          uint8_t *out, size_t out_len);
 
 /* Writes a settings file from rows as numbers, version, key and value of each in turn: 27 where they aren't whole rows, what
    qollqamir_settings_read would give for the result, with that place (56, from 4294967296 rows on 54; 57, 58, 59), 28. On a refusal out keeps

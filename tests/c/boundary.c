@@ -1,6 +1,6 @@
 /* Calls the library through its C header: the boxes M and C of document 01, the last field of every struct, the three writers, several
-   private parts, the program header, the signature parts, the root signature, the settings files and the figures of document 02, every byte
-   of the answers of every call, null pointers. */
+   private parts, the program header, the signature parts, the root signature, the settings files, the figures and the section places of
+   document 02, every byte of the answers of every call, null pointers. */
 #include "qollqamir.h"
 
 #include <stdio.h>
@@ -2901,19 +2901,477 @@ static void test_figures_join_stays(void) {
     }
 }
 
+/* ---- places */
+
+/* The sizes of a runtime record by its edition. */
+static const uint32_t runtime_sizes[4] = {24, 36, 48, 52};
+
+/* n bytes at a place lie inside. Products of numbers of 32 bits and their sums don't pass 64. */
+static bool inside(size_t len, uint64_t at, uint64_t n) { return at <= len && n <= len - at; }
+
+static uint32_t size_by(qollqamir_places p) { return runtime_sizes[p.edition > 3 ? 3 : p.edition]; }
+
+static qollqamir_field set_if(bool has, uint32_t n) { return (qollqamir_field){has, has ? n : 0}; }
+
+/* The words of masks, by the bytes of a runtime record of edition 1 or more. */
+static void words_of(const uint8_t *r, uint32_t *words) {
+    uint32_t stage = r[24], view = r[25] == 1, u = r[31], p = stage == 3 || stage == 4 || stage == 13 ? r[26] : 0;
+    for (int i = 0; i < 4; i++) {
+        words[i] = view * ((r[32 + i] + 7u) / 8);
+        words[5 + i] = (r[32 + i] + 7u) / 8 * u * 4;
+    }
+    words[4] = view * (stage == 3 || stage == 13) * ((p + 7) / 8);
+    words[9] = (stage == 3) * ((p + 7) / 8) * u * 4;
+    words[10] = (stage == 4) * ((r[32] + 7u) / 8) * p * 4;
+}
+
+static size_t edition_of(uint32_t s) { return s < 36 ? 0 : s < 48 ? 1 : s < 52 ? 2 : 3; }
+
+/* The places of accepted PSV0 data that start at a byte, by the order of the sections in document 01. */
+static qollqamir_places shown_places(const uint8_t *data, size_t at, size_t edition) {
+    uint32_t s = get32(data), from = (uint32_t)at, n = 4 + s;
+    qollqamir_places p = {.edition = (uint32_t)(edition < edition_of(s) ? edition : edition_of(s)), .runtime = from + 4};
+    p.resource_count = get32(data + n);
+    n += 4;
+    if (p.resource_count > 0) {
+        p.resource_size = get32(data + n);
+        n += 4;
+    }
+    p.resources = from + n;
+    if (p.edition == 0) {
+        return p;
+    }
+    n += p.resource_count * p.resource_size;
+    p.stage = data[4 + 24];
+    p.string_bytes = get32(data + n);
+    p.strings = from + n + 4;
+    n += 4 + p.string_bytes;
+    p.index_count = get32(data + n);
+    p.indices = from + n + 4;
+    n += 4 + 4 * p.index_count;
+    p.element_count = (uint32_t)data[4 + 28] + data[4 + 29] + data[4 + 30];
+    if (p.element_count > 0) {
+        p.element_size = get32(data + n);
+        n += 4;
+    }
+    p.elements = from + n;
+    p.masks = from + n + p.element_count * p.element_size;
+    words_of(data + 4, p.mask_words);
+    return p;
+}
+
+/* The part with a name, which there is. */
+static size_t part_at(const uint8_t *bytes, const char *four) {
+    size_t i = 0;
+    while (memcmp(bytes + get32(bytes + 32 + 4 * i), four, 4) != 0) {
+        i++;
+    }
+    return get32(bytes + 32 + 4 * i);
+}
+
+static qollqamir_opened shown_opened(const uint8_t *bytes, size_t len, size_t edition, bool alone) {
+    qollqamir_opened a = {.verdict = (alone ? qollqamir_psv0_open : qollqamir_open)(bytes, len, edition).verdict};
+    if (a.verdict.number == 0) {
+        size_t at = alone ? 0 : part_at(bytes, "PSV0") + 8;
+        a.parts = alone ? 0 : get32(bytes + 28);
+        a.file_edition = (uint32_t)edition_of(get32(bytes + at));
+        a.places = shown_places(bytes + at, at, edition);
+        a.edition_read = a.places.edition;
+    }
+    return a;
+}
+
+/* The recorded edition and stage decide what is set; the numbers are those of the bytes. */
+static qollqamir_info shown_info(const uint8_t *b, size_t len, qollqamir_places p) {
+    if (!inside(len, p.runtime, size_by(p))) {
+        return (qollqamir_info){.verdict = {29, 0}};
+    }
+    uint8_t r[52] = {0};
+    memcpy(r, b + p.runtime, size_by(p));
+    bool one = p.edition >= 1, patch = p.stage == 3 || p.stage == 4 || p.stage == 13;
+    bool threads = p.edition >= 2 && (p.stage == 5 || p.stage == 13 || p.stage == 14);
+    return (qollqamir_info){
+        {0, 0},
+        set_if(true, get32(r + 16)),
+        set_if(true, get32(r + 20)),
+        set_if(one, r[24]),
+        set_if(one, r[25]),
+        set_if(one && p.stage == 2, r[26] + 256u * r[27]),
+        set_if(one && patch, r[26]),
+        set_if(one && p.stage == 13, r[27]),
+        set_if(one, r[28]),
+        set_if(one, r[29]),
+        set_if(one, r[30]),
+        set_if(one, r[31]),
+        set_if(one, r[32]),
+        set_if(one, r[33]),
+        set_if(one, r[34]),
+        set_if(one, r[35]),
+        set_if(threads, get32(r + 36)),
+        set_if(threads, get32(r + 40)),
+        set_if(threads, get32(r + 44)),
+        set_if(p.edition >= 3, get32(r + 48)),
+    };
+}
+
+static qollqamir_resource_record shown_resource(const uint8_t *b, size_t len, qollqamir_places p, size_t i) {
+    bool late = p.edition >= 2 && p.resource_size >= 24;
+    uint64_t at = p.resources + (uint64_t)i * p.resource_size;
+    if (i >= p.resource_count || !inside(len, at, late ? 24 : 16)) {
+        return (qollqamir_resource_record){.verdict = {i >= p.resource_count ? 26 : 29, 0}};
+    }
+    const uint8_t *r = b + at;
+    return (qollqamir_resource_record){
+        {0, 0},
+        set_if(true, get32(r)),
+        set_if(true, get32(r + 4)),
+        set_if(true, get32(r + 8)),
+        set_if(true, get32(r + 12)),
+        set_if(late, late ? get32(r + 16) : 0),
+        set_if(late, late ? get32(r + 20) : 0),
+    };
+}
+
+/* Element i: 26, 29, or 0 and its place. */
+static size_t element_by(size_t len, qollqamir_places p, size_t i, uint64_t *at) {
+    if (p.edition == 0 || i >= p.element_count) {
+        return 26;
+    }
+    *at = p.elements + (uint64_t)i * p.element_size;
+    return inside(len, *at, 16) ? 0 : 29;
+}
+
+static qollqamir_element_record shown_element(const uint8_t *b, size_t len, qollqamir_places p, size_t i) {
+    uint64_t at;
+    size_t number = element_by(len, p, i, &at);
+    if (number != 0) {
+        return (qollqamir_element_record){.verdict = {number, 0}};
+    }
+    const uint8_t *r = b + at;
+    return (qollqamir_element_record){
+        {0, 0},
+        set_if(true, get32(r)),
+        set_if(true, get32(r + 4)),
+        set_if(true, r[8]),
+        set_if(true, r[9]),
+        set_if(true, r[10] & 15),
+        set_if(true, r[10] >> 4 & 3),
+        set_if(true, r[10] >> 6 & 1),
+        set_if(true, r[11]),
+        set_if(true, r[12]),
+        set_if(true, r[13]),
+        set_if(true, r[14] & 15),
+        set_if(true, r[14] >> 4 & 3),
+        set_if(true, r[15]),
+    };
+}
+
+static qollqamir_list_lengths shown_lengths(qollqamir_places p) {
+    bool one = p.edition >= 1;
+    return (qollqamir_list_lengths){{0, 0}, {1, p.resource_count}, set_if(one, p.string_bytes), set_if(one, p.index_count),
+                                    set_if(one, p.element_count)};
+}
+
+/* The length of the well-formed sequence that text begins with, 0 where there is none: table 3-7 of the Unicode Standard. */
+static size_t sequence(const uint8_t *text, size_t len) {
+    uint8_t lead = text[0];
+    size_t n = lead < 0x80 ? 1 : lead < 0xc2 ? 0 : lead < 0xe0 ? 2 : lead < 0xf0 ? 3 : lead < 0xf5 ? 4 : 0;
+    if (n > len) {
+        return 0;
+    }
+    for (size_t k = 1; k < n; k++) {
+        uint8_t least = k > 1 ? 0x80 : lead == 0xe0 ? 0xa0 : lead == 0xf0 ? 0x90 : 0x80;
+        uint8_t most = k > 1 ? 0xbf : lead == 0xed ? 0x9f : lead == 0xf4 ? 0x8f : 0xbf;
+        if (text[k] < least || text[k] > most) {
+            return 0;
+        }
+    }
+    return n;
+}
+
+#define NO_SPAN(n) ((qollqamir_span){.verdict = {n, 0}})
+
+static qollqamir_span stretch_by(size_t len, uint64_t at, uint64_t n) {
+    return inside(len, at, n) ? (qollqamir_span){{0, 0}, (size_t)at, (size_t)n, 0, 0} : NO_SPAN(29);
+}
+
+/* The string at a reference; the whole table must lie inside. */
+static qollqamir_span string_by(const uint8_t *b, size_t len, qollqamir_places p, uint32_t o) {
+    if (!inside(len, p.strings, p.string_bytes) || o >= p.string_bytes) {
+        return NO_SPAN(29);
+    }
+    const uint8_t *text = b + p.strings + o, *zero = memchr(text, 0, p.string_bytes - o);
+    if (zero == NULL) {
+        return NO_SPAN(29);
+    }
+    size_t n = (size_t)(zero - text), points = 0;
+    for (size_t at = 0, step; at < n; at += step, points++) {
+        step = sequence(text + at, n - at);
+        if (step == 0) {
+            return NO_SPAN(29);
+        }
+    }
+    return (qollqamir_span){{0, 0}, p.strings + (size_t)o, n, 1, points};
+}
+
+static qollqamir_span shown_view(const uint8_t *b, size_t len, qollqamir_places p, uint32_t kind, size_t number) {
+    uint64_t at = p.masks, n = 0;
+    switch (kind) {
+    case QOLLQAMIR_STAGE_UNION:
+        return inside(len, p.runtime, size_by(p)) ? stretch_by(len, p.runtime, 16) : NO_SPAN(29);
+    case QOLLQAMIR_ELEMENT_STRING:
+    case QOLLQAMIR_ELEMENT_ARRAY:
+        n = element_by(len, p, number, &at);
+        if (n != 0) {
+            return NO_SPAN(n);
+        }
+        if (kind == QOLLQAMIR_ELEMENT_STRING) {
+            return string_by(b, len, p, get32(b + at));
+        }
+        if (!inside(len, p.indices, (uint64_t)p.index_count * 4) || (uint64_t)get32(b + at + 4) + b[at + 8] > p.index_count) {
+            return NO_SPAN(29);
+        }
+        return stretch_by(len, p.indices + (uint64_t)get32(b + at + 4) * 4, b[at + 8] * 4u);
+    case QOLLQAMIR_ENTRY_NAME:
+        if (p.edition < 3) {
+            return NO_SPAN(26);
+        }
+        return inside(len, p.runtime, 52) ? string_by(b, len, p, get32(b + p.runtime + 48)) : NO_SPAN(29);
+    case QOLLQAMIR_MASK:
+        if (p.edition == 0 || number > 10) {
+            return NO_SPAN(26);
+        }
+        for (size_t k = 0; k < number; k++) {
+            at += (uint64_t)p.mask_words[k] * 4;
+        }
+        return stretch_by(len, at, (uint64_t)p.mask_words[number] * 4);
+    default:
+        return NO_SPAN(26);
+    }
+}
+
+static qollqamir_span shown_section(size_t len, qollqamir_places p, uint32_t section) {
+    if (section > 5) {
+        return NO_SPAN(26);
+    }
+    uint64_t words = 0;
+    for (size_t k = 0; k < 11; k++) {
+        words += p.mask_words[k];
+    }
+    const struct { uint64_t at, n; } all[6] = {
+        {p.runtime, size_by(p)},
+        {p.resources, (uint64_t)p.resource_count * p.resource_size},
+        {p.strings, p.string_bytes},
+        {p.indices, (uint64_t)p.index_count * 4},
+        {p.elements, (uint64_t)p.element_count * p.element_size},
+        {p.masks, words * 4},
+    };
+    return p.edition == 0 && section >= 2 ? stretch_by(len, 0, 0) : stretch_by(len, all[section].at, all[section].n);
+}
+
+/* Whether PSV0 data that reader 3 accepts are in plain form. */
+static bool is_plain(const uint8_t *data, size_t len) {
+    qollqamir_places p = shown_places(data, 0, 3);
+    size_t end = p.resources + p.resource_count * p.resource_size;
+    if (p.edition >= 1) {
+        end = p.masks;
+        for (size_t k = 0; k < 11; k++) {
+            end += p.mask_words[k] * (size_t)4;
+        }
+    }
+    return get32(data) == runtime_sizes[p.edition] && (p.resource_count == 0 || p.resource_size == (p.edition < 2 ? 16 : 24)) &&
+           (p.element_count == 0 || p.element_size == 16) && end == len;
+}
+
+/* A container that opens, with other PSV0 data. */
+static size_t put_replaced(uint8_t *out, const uint8_t *bytes, size_t len, const uint8_t *part, size_t part_len) {
+    size_t at = part_at(bytes, "PSV0"), size = get32(bytes + at + 4), end = at + 8 + size;
+    size_t n = put(out, bytes, at + 4);
+    n += put32(out + n, (uint32_t)part_len);
+    n += put(out + n, part, part_len);
+    n += put(out + n, bytes + end, len - end);
+    put32(out + 24, (uint32_t)n);
+    for (uint32_t i = 0; i < get32(bytes + 28); i++) {
+        size_t offset = get32(bytes + 32 + 4 * i);
+        put32(out + 32 + 4 * i, (uint32_t)(offset > at ? offset + part_len - size : offset));
+    }
+    return n;
+}
+
+static qollqamir_replaced shown_replaced(const uint8_t *bytes, size_t len, size_t edition, const uint8_t *part, size_t part_len,
+                                         size_t room) {
+    qollqamir_replaced a = {.verdict = qollqamir_open(bytes, len, edition).verdict};
+    if (a.verdict.number == 0) {
+        a.verdict = qollqamir_psv0_open(part, part_len, 3).verdict;
+    }
+    if (a.verdict.number != 0) {
+        return a;
+    }
+    size_t at = part_at(bytes, "PSV0"), result = len - get32(bytes + at + 4) + part_len;
+    a.verdict.number = !is_plain(part, part_len) ? 27 : result > GREATEST ? 2 : result > room ? 28 : 0;
+    if (a.verdict.number == 0) {
+        a.len = (uint32_t)result;
+        a.places = shown_places(part, at + 8, edition);
+    }
+    return a;
+}
+
+/* What PSV0 data are made of: the size of the runtime record, bytes 24 to 35 of it, how many records of what size, and the lengths of both
+   tables. Elements take the size alone. */
+struct shape {
+    uint32_t s;
+    uint8_t stage, view, patch, topology, counts[3], u, v[4];
+    uint32_t resources, resource_size, strings, indices, element_size;
+};
+
+/* Editions 0 to 3, with runtime records and records of the least size and longer ones, with and without records; among them each mask has
+   words. The first four and the last two are in plain form. */
+static const struct shape shapes[] = {
+    {.s = 24},
+    {.s = 36, .stage = 1, .counts = {1, 0, 0}, .resources = 1, .resource_size = 16, .strings = 8, .indices = 2, .element_size = 16},
+    {.s = 48, .stage = 14, .u = 2, .v = {9}, .resources = 2, .resource_size = 24, .strings = 4},
+    {.s = 52, .stage = 3, .view = 1, .patch = 9, .counts = {1, 1, 1}, .u = 3, .v = {9}, .resources = 2, .resource_size = 24, .strings = 16,
+     .indices = 6, .element_size = 16},
+    {.s = 32, .resources = 3, .resource_size = 20},
+    {.s = 44, .stage = 2, .view = 1, .patch = 3, .topology = 1, .counts = {1, 1, 0}, .u = 2, .v = {1, 9, 17, 25}, .strings = 8,
+     .indices = 3, .element_size = 20},
+    {.s = 48, .stage = 4, .patch = 5, .counts = {0, 0, 1}, .u = 3, .v = {9}, .resources = 1, .resource_size = 20, .strings = 4,
+     .element_size = 16},
+    {.s = 60, .stage = 3, .view = 1, .patch = 9, .counts = {2, 0, 1}, .u = 3, .v = {17}, .resources = 2, .resource_size = 28, .strings = 12,
+     .indices = 4, .element_size = 24},
+    {.s = 52, .stage = 13, .view = 1, .patch = 17, .topology = 2, .u = 1, .v = {1}, .resources = 3, .resource_size = 24, .strings = 4},
+    {.s = 52, .stage = 5, .strings = 4},
+};
+enum { SHAPES = sizeof shapes / sizeof *shapes };
+
+static bool plain_shape(size_t k) { return k < 4 || k >= 8; }
+
+/* PSV0 data of a shape, every byte that is left open another, and their places at the file's edition as they are laid out, counted from a
+   byte. A string table has letters with zeros among them and ends in one. */
+static size_t box_of(uint8_t *out, const struct shape *h, size_t at, qollqamir_places *places) {
+    qollqamir_places p = {.edition = (uint32_t)edition_of(h->s)};
+    for (size_t i = 0; i < 1000; i++) {
+        out[i] = (uint8_t)(0x41 + 7 * i + h->s + h->stage);
+    }
+    size_t n = put32(out, h->s);
+    p.runtime = (uint32_t)(at + n);
+    if (h->s >= 36) {
+        uint8_t *r = out + n;
+        put(r + 24, &h->stage, 12);
+        words_of(r, p.mask_words);
+        p.stage = h->stage;
+    }
+    if (h->s >= 52) {
+        put32(out + n + 48, h->strings - 1 - (h->strings > 4 ? 2 : 0));
+    }
+    n += h->s;
+    n += put32(out + n, h->resources);
+    if (h->resources > 0) {
+        n += put32(out + n, h->resource_size);
+    }
+    p.resources = (uint32_t)(at + n);
+    p.resource_count = h->resources;
+    p.resource_size = h->resource_size;
+    n += h->resources * h->resource_size;
+    if (p.edition >= 1) {
+        n += put32(out + n, h->strings);
+        p.strings = (uint32_t)(at + n);
+        p.string_bytes = h->strings;
+        for (uint32_t i = 0; i < h->strings; i++) {
+            out[n + i] = i % 4 == 3 ? 0 : (uint8_t)('A' + i);
+        }
+        n += h->strings;
+        n += put32(out + n, h->indices);
+        p.indices = (uint32_t)(at + n);
+        p.index_count = h->indices;
+        n += h->indices * 4;
+        p.element_count = (uint32_t)h->counts[0] + h->counts[1] + h->counts[2];
+        p.element_size = h->element_size;
+        if (p.element_count > 0) {
+            n += put32(out + n, h->element_size);
+        }
+        p.elements = (uint32_t)(at + n);
+        for (uint32_t i = 0; i < p.element_count; i++) {
+            /* Two rows at the end of the table, then one and none before it. */
+            uint32_t rows = h->indices < 2 || i > 2 ? 0 : 2 - i;
+            put32(out + n, i % h->strings);
+            put32(out + n + 4, h->indices - rows);
+            out[n + 8] = (uint8_t)rows;
+            n += h->element_size;
+        }
+        p.masks = (uint32_t)(at + n);
+        for (size_t i = 0; i < 11; i++) {
+            n += p.mask_words[i] * (size_t)4;
+        }
+    }
+    *places = p;
+    return n;
+}
+
+static size_t box_shape(uint8_t *out, size_t k, size_t at, qollqamir_places *places) { return box_of(out, &shapes[k], at, places); }
+
+/* The same read at an edition. */
+static qollqamir_places read_at(qollqamir_places p, size_t edition) {
+    if (edition == 0) {
+        return (qollqamir_places){
+            .runtime = p.runtime, .resources = p.resources, .resource_count = p.resource_count, .resource_size = p.resource_size};
+    }
+    p.edition = p.edition < edition ? p.edition : (uint32_t)edition;
+    return p;
+}
+
+/* The places of the shapes' PSV0 data alone in plain numbers, worked out by hand. */
+static const qollqamir_places shape_places[SHAPES] = {
+    {0, 4, 32, 0, 0, 0, 0, 0, 0, 0, 0, 0, 0, {0}, 0},
+    {1, 4, 48, 1, 16, 68, 8, 80, 2, 92, 1, 16, 108, {0}, 1},
+    {2, 4, 60, 2, 24, 112, 4, 120, 0, 120, 0, 0, 120, {0, 0, 0, 0, 0, 16, 0, 0, 0, 0, 0}, 14},
+    {3, 4, 64, 2, 24, 116, 16, 136, 6, 164, 3, 16, 212, {2, 0, 0, 0, 2, 24, 0, 0, 0, 24, 0}, 3},
+    {0, 4, 44, 3, 20, 0, 0, 0, 0, 0, 0, 0, 0, {0}, 0},
+    {1, 4, 52, 0, 0, 56, 8, 68, 3, 84, 2, 20, 124, {1, 2, 3, 4, 0, 8, 16, 24, 32, 0, 0}, 2},
+    {2, 4, 60, 1, 20, 84, 4, 92, 0, 96, 1, 16, 112, {0, 0, 0, 0, 0, 24, 0, 0, 0, 0, 40}, 4},
+    {3, 4, 72, 2, 28, 132, 12, 148, 4, 168, 3, 24, 240, {3, 0, 0, 0, 2, 36, 0, 0, 0, 24, 0}, 3},
+    {3, 4, 64, 3, 24, 140, 4, 148, 0, 148, 0, 0, 148, {1, 0, 0, 0, 3, 4, 0, 0, 0, 0, 0}, 13},
+    {3, 4, 60, 0, 0, 64, 4, 72, 0, 72, 0, 0, 72, {0}, 5},
+};
+static const size_t shape_lengths[SHAPES] = {32, 108, 184, 420, 104, 484, 368, 500, 180, 72};
+
+/* A container with its PSV0 data first, in the middle or last, between gaps and with bytes after the last part, no two of these bytes
+   alike in a row. Its data start where "at" says. */
+enum { WAYS = 4 };
+static const size_t data_at[WAYS] = {48, 55, 82, 104};
+static size_t box_placed(uint8_t *out, size_t way, const uint8_t *psv0, size_t len) {
+    const struct entry code = {"DXIL", way == 1 ? 0 : 2, 0, 4, 0, "code"}, data = {"PSV0", way % 2 ? 3 : 0, 0, (uint32_t)len, 0, psv0};
+    const struct entry one = {"PRIV", 1, 0, 3, 0, "one"}, other = {"PRIV", 6, 0, 5, 0, "other"};
+    const struct entry entries[WAYS][4] = {{data, code}, {data, one, code}, {one, code, data, other}, {one, code, other, data}};
+    static const uint32_t counts[WAYS] = {2, 3, 4, 4};
+    static const size_t after[WAYS] = {0, 5, 9, 0};
+    size_t n = lay_out(out, entries[way], counts[way], after[way]), from = 32 + 4 * (size_t)counts[way];
+    uint8_t filler = 0x80;
+    for (uint32_t i = 0; i <= counts[way]; i++) {
+        size_t to = i < counts[way] ? get32(out + 32 + 4 * i) : n;
+        while (from < to) {
+            out[from++] = filler++;
+        }
+        from = to + 8 + (i < counts[way] ? entries[way][i].size : 0);
+    }
+    put(out + 4, "0123456789abcdef", 16);
+    return n;
+}
+
 /* ---- every byte of an answer */
 
-/* The calls. Those up to OPEN_DEFAULT take no edition, nor do those from DXIL_PROGRAM on but WRITE_PSV0 and FIGURES_START; those on PSV0
-   data alone stand in the order of those on containers, and a call that takes an occurrence follows the one that takes none. The answers of
-   those from CALLS on don't begin with a verdict. */
+/* The calls. Those up to OPEN_DEFAULT take no edition, nor do those from DXIL_PROGRAM on but WRITE_PSV0, REPLACE_PSV0 and FIGURES_START;
+   those on PSV0 data alone stand in the order of those on containers, and so do those by places; a call that takes an occurrence follows
+   the one that takes none. The answers of those from CALLS on don't begin with a verdict. */
 enum call {
     TABLE, TABLE_PART, TABLE_PART_OCCURRENCE, KNOWN, OPEN_DEFAULT, PART, PART_OCCURRENCE, PROGRAM,
     SIGNATURE, SIGNATURE_ELEMENT, SIGNATURE_NAME, SIGNATURE_DIFFERENCE, ROOT, ROOT_ITEM, ROOT_RANGE,
-    OPEN, INFO, RESOURCE, ELEMENT, LENGTHS, VIEW, SECTION,
-    PSV0_OPEN, PSV0_INFO, PSV0_RESOURCE, PSV0_ELEMENT, PSV0_LENGTHS, PSV0_VIEW, PSV0_SECTION,
+    OPEN, INFO, RESOURCE, ELEMENT, LENGTHS, VIEW, SECTION, OPEN_PLACES,
+    PSV0_OPEN, PSV0_INFO, PSV0_RESOURCE, PSV0_ELEMENT, PSV0_LENGTHS, PSV0_VIEW, PSV0_SECTION, PSV0_OPEN_PLACES,
     DXIL_PROGRAM, SG1_READ, SG1_ELEMENT, SG1_ELEMENT_ALONE, SG1_NAME,
     RTS0_READ, RTS0_ITEM, RTS0_ITEM_ALONE, RTS0_RANGE, RTS0_RANGE_ALONE,
-    SETTINGS_READ, SETTINGS_ROW, SETTINGS_VALUE, SETTINGS_ROW_ALONE, WRITE_PSV0, ASSEMBLE, WRITE_SETTINGS, CALLS,
+    PLACES_INFO, PLACES_RESOURCE, PLACES_ELEMENT, PLACES_LENGTHS, PLACES_VIEW, PLACES_SECTION,
+    SETTINGS_READ, SETTINGS_ROW, SETTINGS_VALUE, SETTINGS_ROW_ALONE, WRITE_PSV0, ASSEMBLE, WRITE_SETTINGS, REPLACE_PSV0, CALLS,
     FIGURES_START = CALLS, FIGURES_ADD, FIGURES_JOIN
 };
 
@@ -2922,7 +3380,8 @@ enum { NUMBERS = 61, PLACES = 17 };
 
 /* A call and what it is handed; a signature part's number is its kind, and so is a range's; an occurrence is its number. A setting's key is
    its kind, its version its number; a row alone begins at its number, after the version that is its kind. A writer's byte arguments lie end
-   to end in bytes, and pieces has their lengths; rows lie there as numbers. Figures are two, of which joining alone takes the second. */
+   to end in bytes, and pieces has their lengths, so do a container and its other PSV0 data; rows lie there as numbers. Figures are two, of
+   which joining alone takes the second. Places are any. */
 struct question {
     enum call call;
     const uint8_t *bytes;
@@ -2935,6 +3394,7 @@ struct question {
     uint8_t *out;
     size_t room;
     const qollqamir_figures *figures;
+    qollqamir_places places;
 };
 
 /* Where a writer's argument i starts; the last ones have less or nothing where bytes are cut short. */
@@ -2993,6 +3453,14 @@ __attribute__((noinline)) static size_t answer(const struct question *q, uint8_t
     case PSV0_LENGTHS: ANSWER(qollqamir_list_lengths, qollqamir_psv0_lengths(b, n, e))
     case PSV0_VIEW: ANSWER(qollqamir_span, qollqamir_psv0_view(b, n, e, k, i))
     case PSV0_SECTION: ANSWER(qollqamir_span, qollqamir_psv0_section(b, n, e, k))
+    case OPEN_PLACES: ANSWER(qollqamir_opened, qollqamir_open_places(b, n, e))
+    case PSV0_OPEN_PLACES: ANSWER(qollqamir_opened, qollqamir_psv0_open_places(b, n, e))
+    case PLACES_INFO: ANSWER(qollqamir_info, qollqamir_places_runtime_info(b, n, q->places))
+    case PLACES_RESOURCE: ANSWER(qollqamir_resource_record, qollqamir_places_resource(b, n, q->places, i))
+    case PLACES_ELEMENT: ANSWER(qollqamir_element_record, qollqamir_places_element(b, n, q->places, i))
+    case PLACES_LENGTHS: ANSWER(qollqamir_list_lengths, qollqamir_places_lengths(b, n, q->places))
+    case PLACES_VIEW: ANSWER(qollqamir_span, qollqamir_places_view(b, n, q->places, k, i))
+    case PLACES_SECTION: ANSWER(qollqamir_span, qollqamir_places_section(b, n, q->places, k))
     case DXIL_PROGRAM: ANSWER(qollqamir_program_data, qollqamir_dxil_program(b, n))
     case SG1_READ: ANSWER(qollqamir_signature_data, qollqamir_sg1_read(b, n))
     case SG1_ELEMENT: ANSWER(qollqamir_signature_record, qollqamir_sg1_element(b, n, i))
@@ -3012,6 +3480,7 @@ __attribute__((noinline)) static size_t answer(const struct question *q, uint8_t
     case ASSEMBLE:
         ANSWER(qollqamir_written, qollqamir_assemble(PIECE(0), q->sizes, q->pieces[0] / 4, PIECE(1), PIECE(2), q->out, q->room))
     case WRITE_SETTINGS: ANSWER(qollqamir_written, qollqamir_write_settings(ROWS, q->out, q->room))
+    case REPLACE_PSV0: ANSWER(qollqamir_replaced, qollqamir_replace_psv0(PIECE(0), e, PIECE(1), q->out, q->room))
     case FIGURES_START: ANSWER(qollqamir_figures, qollqamir_figures_start(e))
     case FIGURES_ADD: ANSWER(qollqamir_figures_added, qollqamir_figures_add(q->figures[0], b, n))
     case FIGURES_JOIN: ANSWER(qollqamir_figures_joined, qollqamir_figures_join(q->figures[0], q->figures[1]))
@@ -3053,7 +3522,7 @@ static size_t counted[NUMBERS];
 
 /* The first refused answer of a call with a number and a place, and the bytes that it refused. */
 static struct refusal {
-    uint8_t answer[sizeof(qollqamir_parts)], bytes[512];
+    uint8_t answer[sizeof(qollqamir_parts)], bytes[1000];
     size_t answer_len, len;
     bool paired;
 } refusals[CALLS][NUMBERS][PLACES];
@@ -3086,9 +3555,10 @@ static size_t rows_of(const struct question *q, uint32_t *rows) {
     return numbers;
 }
 
-/* What the rules give for a question on settings files, rows or figures; nothing for any other. */
+/* What the rules give for a question on settings files, rows, figures or places; nothing for any other. */
 static size_t ruled(const struct question *q, uint8_t *to) {
     uint32_t rows[250];
+#define PIECES(i) q->bytes + start(q, i), start(q, i + 1) - start(q, i)
 #define RULED(type, rule)             \
     {                                 \
         type a = rule;                \
@@ -3100,19 +3570,58 @@ static size_t ruled(const struct question *q, uint8_t *to) {
     case SETTINGS_VALUE: RULED(qollqamir_setting, shown_value(q->bytes, q->len, q->kind, (uint32_t)q->number))
     case SETTINGS_ROW_ALONE: RULED(qollqamir_setting_row_alone, shown_row_alone(q->bytes, q->len, q->number, q->kind))
     case WRITE_SETTINGS: RULED(qollqamir_written, shown_written(rows, rows_of(q, rows), q->room))
+    case OPEN_PLACES: RULED(qollqamir_opened, shown_opened(q->bytes, q->len, q->edition, false))
+    case PSV0_OPEN_PLACES: RULED(qollqamir_opened, shown_opened(q->bytes, q->len, q->edition, true))
+    case PLACES_INFO: RULED(qollqamir_info, shown_info(q->bytes, q->len, q->places))
+    case PLACES_RESOURCE: RULED(qollqamir_resource_record, shown_resource(q->bytes, q->len, q->places, q->number))
+    case PLACES_ELEMENT: RULED(qollqamir_element_record, shown_element(q->bytes, q->len, q->places, q->number))
+    case PLACES_LENGTHS: RULED(qollqamir_list_lengths, shown_lengths(q->places))
+    case PLACES_VIEW: RULED(qollqamir_span, shown_view(q->bytes, q->len, q->places, q->kind, q->number))
+    case PLACES_SECTION: RULED(qollqamir_span, shown_section(q->len, q->places, q->kind))
+    case REPLACE_PSV0: RULED(qollqamir_replaced, shown_replaced(PIECES(0), q->edition, PIECES(1), q->room))
     case FIGURES_START: RULED(qollqamir_figures, ((qollqamir_figures){.edition = q->edition}))
     case FIGURES_ADD: RULED(qollqamir_figures_added, shown_added(q->figures[0], q->bytes, q->len))
     case FIGURES_JOIN: RULED(qollqamir_figures_joined, shown_joined(q->figures[0], q->figures[1]))
     default: return 0;
     }
 #undef RULED
+#undef PIECES
+}
+
+/* Where an empty stretch that is accepted starts is left open, but inside the bytes. */
+static void settle_start(const struct question *q, uint8_t *answer) {
+    qollqamir_span span;
+    memcpy(&span, answer, sizeof span);
+    if (span.verdict.number == 0 && span.len == 0) {
+        CHECK(span.start <= q->len);
+        memset(answer + offsetof(qollqamir_span, start), 0, sizeof span.start);
+    }
+}
+
+static bool is_span(enum call call) {
+    return call == VIEW || call == SECTION || call == PSV0_VIEW || call == PSV0_SECTION || call == PLACES_VIEW || call == PLACES_SECTION;
+}
+
+/* How many bytes of the output are a writer's result. */
+static size_t result_of(const struct question *q, const uint8_t *answer) {
+    qollqamir_written written;
+    qollqamir_replaced replaced;
+    if (q->call < WRITE_PSV0 || q->call >= CALLS) {
+        return 0;
+    }
+    if (q->call == REPLACE_PSV0) {
+        memcpy(&replaced, answer, sizeof replaced);
+        return replaced.len;
+    }
+    memcpy(&written, answer, sizeof written);
+    return written.len;
 }
 
 /* Asks twice and compares. The second time the stack and the answer's place hold another pattern, and the bytes, the output and the stack
    are at other addresses: what stood in memory before would differ, and an address too. The bytes and figures stay as they are, and so does
    the output but for a result. Beside a refusal all is 0; a refused answer is also compared with the first that has the same call, number
-   and place. An accepted table and an assembled container are checked as a whole, and every answer on settings files and figures against
-   the rules. */
+   and place. An accepted table, an assembled container and one with other PSV0 data are checked as a whole, and every answer on settings
+   files, figures and places against the rules. */
 static qollqamir_verdict ask(const struct question *question) {
     static const uint8_t patterns[4] = {0x00, 0xa5, 0xff, 0x5a};
     static uint8_t answers[2][sizeof(qollqamir_parts)], outs[2][1000], stood[1000];
@@ -3144,19 +3653,21 @@ static qollqamir_verdict ask(const struct question *question) {
     asked++;
     same("answers", answers[0], answers[1], len);
     same("outputs", outs[0], outs[1], sizeof outs[0]);
-    size_t result = 0;
-    if (q->call >= WRITE_PSV0 && q->call < CALLS) {
-        qollqamir_written written;
-        memcpy(&written, answers[0], sizeof written);
-        CHECK(written.len <= q->room);
-        result = written.len;
-    }
+    size_t result = result_of(q, answers[0]);
+    CHECK(result <= q->room);
     if (stood[0] == 0) {
         memset(stood, 0xee, sizeof stood);
     }
     same("the output past the result and what stood there", outs[0] + result, stood + result, sizeof stood - result);
-    uint8_t rules[sizeof(qollqamir_figures_added)];
-    same("the answer and the rules", answers[0], rules, ruled(q, rules));
+    uint8_t rules[sizeof(qollqamir_parts)];
+    size_t rules_len = ruled(q, rules);
+    if (is_span(q->call)) {
+        settle_start(q, answers[0]);
+        if (rules_len > 0) {
+            settle_start(q, rules);
+        }
+    }
+    same("the answer and the rules", answers[0], rules, rules_len);
 
     qollqamir_verdict verdict = {0, 0};
     if (q->call == KNOWN) {
@@ -3186,6 +3697,10 @@ static qollqamir_verdict ask(const struct question *question) {
             uint32_t rows[250];
             uint8_t file[1000];
             same("the result and the rows", outs[0], file, put_rows(file, rows, rows_of(q, rows)));
+        } else if (q->call == REPLACE_PSV0) {
+            uint8_t file[1000];
+            const uint8_t *part = q->bytes + start(q, 1);
+            same("the result and the rule", outs[0], file, put_replaced(file, q->bytes, start(q, 1), part, start(q, 2) - start(q, 1)));
         }
         return verdict;
     }
@@ -3280,6 +3795,7 @@ static const struct question queries[] = {
     {.call = SECTION, .kind = QOLLQAMIR_ELEMENT_RECORDS},
     {.call = SECTION, .kind = QOLLQAMIR_MASKS},
     {.call = SECTION, .kind = 6},
+    {.call = OPEN_PLACES},
 };
 enum { QUERIES = sizeof queries / sizeof *queries };
 
@@ -3328,7 +3844,98 @@ static void ask_figures(struct question q) {
     ask(&q);
 }
 
-/* Every query of a container, or of PSV0 data alone, at every edition and one that there is not. */
+/* What is asked by places, in the order of the calls on a container's bytes. */
+static const struct question places_queries[] = {
+    {.call = PLACES_INFO},
+    {.call = PLACES_RESOURCE, .number = 0},
+    {.call = PLACES_RESOURCE, .number = 1},
+    {.call = PLACES_RESOURCE, .number = 9},
+    {.call = PLACES_ELEMENT, .number = 0},
+    {.call = PLACES_ELEMENT, .number = 2},
+    {.call = PLACES_ELEMENT, .number = 9},
+    {.call = PLACES_LENGTHS},
+    {.call = PLACES_VIEW, .kind = QOLLQAMIR_STAGE_UNION, .number = 7},
+    {.call = PLACES_VIEW, .kind = QOLLQAMIR_ELEMENT_STRING, .number = 0},
+    {.call = PLACES_VIEW, .kind = QOLLQAMIR_ELEMENT_STRING, .number = 1},
+    {.call = PLACES_VIEW, .kind = QOLLQAMIR_ELEMENT_STRING, .number = 9},
+    {.call = PLACES_VIEW, .kind = QOLLQAMIR_ELEMENT_ARRAY, .number = 0},
+    {.call = PLACES_VIEW, .kind = QOLLQAMIR_ELEMENT_ARRAY, .number = 2},
+    {.call = PLACES_VIEW, .kind = QOLLQAMIR_ELEMENT_ARRAY, .number = 9},
+    {.call = PLACES_VIEW, .kind = QOLLQAMIR_ENTRY_NAME, .number = 7},
+    {.call = PLACES_VIEW, .kind = QOLLQAMIR_MASK, .number = 0},
+    {.call = PLACES_VIEW, .kind = QOLLQAMIR_MASK, .number = 1},
+    {.call = PLACES_VIEW, .kind = QOLLQAMIR_MASK, .number = 2},
+    {.call = PLACES_VIEW, .kind = QOLLQAMIR_MASK, .number = 3},
+    {.call = PLACES_VIEW, .kind = QOLLQAMIR_MASK, .number = 4},
+    {.call = PLACES_VIEW, .kind = QOLLQAMIR_MASK, .number = 5},
+    {.call = PLACES_VIEW, .kind = QOLLQAMIR_MASK, .number = 6},
+    {.call = PLACES_VIEW, .kind = QOLLQAMIR_MASK, .number = 7},
+    {.call = PLACES_VIEW, .kind = QOLLQAMIR_MASK, .number = 8},
+    {.call = PLACES_VIEW, .kind = QOLLQAMIR_MASK, .number = 9},
+    {.call = PLACES_VIEW, .kind = QOLLQAMIR_MASK, .number = 10},
+    {.call = PLACES_VIEW, .kind = QOLLQAMIR_MASK, .number = 11},
+    {.call = PLACES_VIEW, .kind = 5},
+    {.call = PLACES_SECTION, .kind = QOLLQAMIR_RUNTIME_RECORD},
+    {.call = PLACES_SECTION, .kind = QOLLQAMIR_RESOURCE_RECORDS},
+    {.call = PLACES_SECTION, .kind = QOLLQAMIR_STRING_TABLE},
+    {.call = PLACES_SECTION, .kind = QOLLQAMIR_INDEX_TABLE},
+    {.call = PLACES_SECTION, .kind = QOLLQAMIR_ELEMENT_RECORDS},
+    {.call = PLACES_SECTION, .kind = QOLLQAMIR_MASKS},
+    {.call = PLACES_SECTION, .kind = 6},
+};
+enum { PLACES_QUERIES = sizeof places_queries / sizeof *places_queries };
+
+/* Every query by places, of any bytes. */
+static void ask_places(const uint8_t *bytes, size_t len, qollqamir_places places) {
+    for (size_t i = 0; i < PLACES_QUERIES; i++) {
+        struct question q = places_queries[i];
+        q.bytes = bytes;
+        q.len = len;
+        q.places = places;
+        ask(&q);
+    }
+}
+
+/* By the places of the bytes every query gives what it gives on the bytes alone. */
+static void same_as_fresh(const uint8_t *bytes, size_t len, size_t edition, bool alone, qollqamir_places places) {
+    for (size_t i = 0; i < PLACES_QUERIES; i++) {
+        uint8_t answers[2][sizeof(qollqamir_info)];
+        struct question q = places_queries[i];
+        q.bytes = bytes;
+        q.len = len;
+        q.edition = edition;
+        q.places = places;
+        size_t n = answer(&q, answers[0]);
+        q.call += (alone ? PSV0_INFO : INFO) - PLACES_INFO;
+        answer(&q, answers[1]);
+        if (is_span(q.call)) {
+            settle_start(&q, answers[0]);
+            settle_start(&q, answers[1]);
+        }
+        same("the answers by places and on the bytes", answers[0], answers[1], n);
+    }
+}
+
+static void ask_own_places(const uint8_t *bytes, size_t len, size_t edition, bool alone) {
+    qollqamir_opened opened = (alone ? qollqamir_psv0_open_places : qollqamir_open_places)(bytes, len, edition);
+    if (opened.verdict.number == 0) {
+        same_as_fresh(bytes, len, edition, alone, opened.places);
+    }
+}
+
+/* The places at each edition of the bytes as they were; null where none are kept. */
+static const qollqamir_places *kept;
+
+static const qollqamir_places *keep(qollqamir_places *places, const uint8_t *bytes, size_t len, bool alone) {
+    for (size_t edition = 0; edition <= 3; edition++) {
+        qollqamir_opened opened = (alone ? qollqamir_psv0_open_places : qollqamir_open_places)(bytes, len, edition);
+        ACCEPTED(opened);
+        places[edition] = opened.places;
+    }
+    return places;
+}
+
+/* Every query of a container, or of PSV0 data alone, at every edition and one that there is not; by places that were kept too. */
 static void ask_reader(struct question file) {
     bool alone = file.call == PSV0_OPEN;
     for (size_t edition = 0; edition <= 4; edition++) {
@@ -3348,6 +3955,10 @@ static void ask_reader(struct question file) {
         }
         if (!alone) {
             ask_figures((struct question){.bytes = file.bytes, .len = file.len, .edition = edition});
+        }
+        ask_own_places(file.bytes, file.len, edition, alone);
+        if (kept != NULL && edition <= 3) {
+            ask_places(file.bytes, file.len, kept[edition]);
         }
     }
 }
@@ -3398,7 +4009,7 @@ static void ask_rows(struct question q) {
 
 /* A writer with room for all and with a byte too little, at every edition where it takes one. */
 static void ask_writer(struct question q) {
-    for (q.edition = 0; q.edition <= (q.call == WRITE_PSV0 ? 4 : 0); q.edition++) {
+    for (q.edition = 0; q.edition <= (q.call == WRITE_PSV0 || q.call == REPLACE_PSV0 ? 4 : 0); q.edition++) {
         ask(&q);
         q.room--;
         ask(&q);
@@ -3440,6 +4051,25 @@ static size_t box_hull(uint8_t *out) {
                              sizeof s.indices, s.elements, sizeof s.elements, s.masks, sizeof s.masks, out, 512);
     ACCEPTED(written);
     return written.len;
+}
+
+/* A container and its other PSV0 data end to end, with every byte changed in turn; then one name twice, which no single changed byte
+   makes. */
+static void ask_replacing(void) {
+    static const size_t ways[][3] = {{0, 1, 9}, {1, 2, 1}, {8, 3, 0}, {0, 0, 3}};
+    for (size_t k = 0; k < sizeof ways / sizeof *ways; k++) {
+        uint8_t psv0[1000], bytes[1000];
+        qollqamir_places places;
+        size_t pieces[2] = {box_placed(bytes, ways[k][1], psv0, box_shape(psv0, ways[k][0], 0, &places)), 0};
+        pieces[1] = box_shape(psv0, ways[k][2], 0, &places);
+        size_t len = pieces[0] + put(bytes + pieces[0], psv0, pieces[1]);
+        struct question q = {.call = REPLACE_PSV0, .len = len, .pieces = pieces};
+        q.room = pieces[0] - shape_lengths[ways[k][0]] + pieces[1];
+        around(ask_writer, q, bytes);
+        q.bytes = bytes;
+        put(bytes + get32(bytes + 36), bytes + get32(bytes + 32), 4);
+        ask_writer(q);
+    }
 }
 
 /* The bytes of the sections of PSV0 data end to end, and their lengths. */
@@ -3553,10 +4183,14 @@ static void test_every_byte(void) {
     for (int box = 0; box < 3; box++) {
         uint8_t psv0[512], bytes[512];
         size_t pieces[6];
+        qollqamir_places places[4];
         size_t len = box == 0 ? box_m(psv0, 24, 24) : box == 1 ? box_c(psv0, 52, 1) : box_hull(psv0);
+        kept = keep(places, psv0, len, true);
         around(ask_reader, (struct question){.call = PSV0_OPEN, .len = len}, psv0);
         size_t n = shader(bytes, psv0, len);
+        kept = keep(places, bytes, n, false);
         around(ask_reader, (struct question){.call = OPEN, .len = n}, bytes);
+        kept = NULL;
         /* One name twice, which no single changed byte makes. */
         put(bytes + 52, "DXIL", 4);
         ask_reader((struct question){.call = OPEN, .bytes = bytes, .len = n});
@@ -3594,14 +4228,21 @@ static void test_every_byte(void) {
     ask_private();
     ask_all_settings();
     ask_all_figures();
-    /* The calls on parts and figures gave every number that they can and no other; 2 takes a longer file, which test_greatest_length and
-       test_figures_refusals have. */
+    ask_replacing();
+    /* The calls on parts, figures and places gave every number that they can and no other; 2 takes a longer file, which
+       test_greatest_length, test_figures_refusals and test_replace_order have. */
     for (size_t number = 1; number < NUMBERS; number++) {
         bool in_table = number <= 9 && number != 2, opening = in_table || (number >= 10 && number <= 25);
         CHECK(gave(TABLE, number) == in_table);
         CHECK(gave(TABLE_PART, number) == (in_table || number == 26) && gave(TABLE_PART_OCCURRENCE, number) == (in_table || number == 26));
         CHECK(gave(PART, number) == (opening || number == 26) && gave(PART_OCCURRENCE, number) == (opening || number == 26));
         CHECK((counted[number] > 0) == opening);
+        CHECK(gave(OPEN_PLACES, number) == opening && gave(PSV0_OPEN_PLACES, number) == (number >= 12 && number <= 25));
+        CHECK(gave(REPLACE_PSV0, number) == (opening || number == 27 || number == 28));
+        CHECK(gave(PLACES_INFO, number) == (number == 29) && !gave(PLACES_LENGTHS, number));
+        for (enum call call = PLACES_RESOURCE; call <= PLACES_SECTION; call++) {
+            CHECK(call == PLACES_LENGTHS || gave(call, number) == (number == 26 || number == 29));
+        }
         /* So did those on settings files; the writer's 56 takes more rows, which test_write_settings has, and its 54 takes 2^32. */
         bool own = number == 53 || number == 54 || number == 55 || number == 57 || number == 58 || number == 59;
         bool whole = own || number == 56 || number == 60;
@@ -3610,7 +4251,7 @@ static void test_every_byte(void) {
         CHECK(gave(WRITE_SETTINGS, number) == (number == 27 || number == 28 || (number >= 57 && number <= 59)));
     }
     for (int call = 0; call < CALLS; call++) {
-        CHECK(accepted[call] > 0 && refused[call] > 0);
+        CHECK(accepted[call] > 0 && (refused[call] > 0 || call == PLACES_LENGTHS));
         bool signature = (call >= SIGNATURE && call <= SIGNATURE_DIFFERENCE) || (call >= SG1_READ && call <= SG1_NAME);
         bool root = (call >= ROOT && call <= ROOT_RANGE) || (call >= RTS0_READ && call <= RTS0_RANGE_ALONE);
         for (int number = signature ? 43 : root ? 46 : NUMBERS; number <= (signature ? 45 : 51); number++) {
@@ -3618,9 +4259,640 @@ static void test_every_byte(void) {
         }
         CHECK(!signature || refusals[call][52][0].answer_len > 0);
     }
-    CHECK(triples >= 1270);
+    CHECK(triples >= 1370);
     printf("c answers: %zu calls made twice; %zu refused answers equal to that of another file, of %zu calls, numbers and places\n", asked,
            paired, triples);
+}
+
+/* ---- queries by places, and replacing */
+
+/* The places of every shape, alone and in containers, at every edition; zeros beside a refusal. */
+static void test_places(void) {
+    static const uint32_t parts[WAYS] = {2, 3, 4, 4};
+    uint8_t psv0[1000], bytes[1000];
+    for (size_t k = 0; k < SHAPES; k++) {
+        for (size_t way = 0; way <= WAYS; way++) {
+            bool alone = way == WAYS;
+            qollqamir_places places;
+            size_t len = box_shape(psv0, k, 0, &places);
+            CHECK(len == shape_lengths[k]);
+            SAME(qollqamir_places, places, shape_places[k]);
+            CHECK(is_plain(psv0, len) == plain_shape(k));
+            if (alone) {
+                /* Bytes after the last section change nothing. */
+                put(bytes, psv0, len);
+                put(bytes + len, "...", 3);
+                len += 3;
+            } else {
+                len = box_placed(bytes, way, psv0, len);
+                box_shape(psv0, k, data_at[way], &places);
+                CHECK(memcmp(bytes + data_at[way], psv0, shape_lengths[k]) == 0);
+            }
+            for (size_t edition = 0; edition <= 4; edition++) {
+                struct question q = {.call = alone ? PSV0_OPEN_PLACES : OPEN_PLACES, .bytes = bytes, .len = len, .edition = edition};
+                qollqamir_verdict verdict = ask(&q);
+                qollqamir_opened expected = {.verdict = {25, 0}};
+                if (edition <= 3) {
+                    expected = (qollqamir_opened){.parts = alone ? 0 : parts[way], .file_edition = places.edition};
+                    expected.places = read_at(places, edition);
+                    expected.edition_read = expected.places.edition;
+                    ask_places(bytes, len, expected.places);
+                    same_as_fresh(bytes, len, edition, alone, expected.places);
+                }
+                CHECK(verdict.number == expected.verdict.number);
+                SAME(qollqamir_opened, (alone ? qollqamir_psv0_open_places : qollqamir_open_places)(bytes, len, edition), expected);
+                if (!alone) {
+                    SAME(qollqamir_opened, qollqamir_open_places(bytes, len - 1, edition),
+                         ((qollqamir_opened){.verdict = {edition == 4 ? 25 : 5, 0}}));
+                } else {
+                    SAME(qollqamir_opened, qollqamir_psv0_open_places(bytes, 3, edition),
+                         ((qollqamir_opened){.verdict = {edition == 4 ? 25 : 12, 0}}));
+                }
+            }
+        }
+    }
+    /* A refusal with a place: the second element's name, in shape 7. */
+    qollqamir_places places;
+    size_t len = box_shape(psv0, 7, 0, &places);
+    put32(psv0 + 192, 12);
+    SAME(qollqamir_opened, qollqamir_psv0_open_places(psv0, len, 1), ((qollqamir_opened){.verdict = {22, 1}}));
+    len = box_placed(bytes, 2, psv0, len);
+    SAME(qollqamir_opened, qollqamir_open_places(bytes, len, 3), ((qollqamir_opened){.verdict = {22, 1}}));
+}
+
+/* A query by places gives 29 on fewer than "end" bytes, and is accepted from there on. */
+static void ends_at(const uint8_t *bytes, qollqamir_places p, struct question q, size_t end) {
+    q.bytes = bytes;
+    q.places = p;
+    for (q.len = 0; q.len < end + 4; q.len += q.len + 2 < end ? (end - 1) / 2 : 1) {
+        qollqamir_verdict verdict = ask(&q);
+        CHECK(verdict.number == (q.len < end ? 29 : 0) && verdict.place == 0);
+    }
+}
+
+#define INFO_ENDS(p, end) ends_at(b, p, (struct question){.call = PLACES_INFO}, end)
+#define RESOURCE_ENDS(p, i, end) ends_at(b, p, (struct question){.call = PLACES_RESOURCE, .number = i}, end)
+#define ELEMENT_ENDS(p, i, end) ends_at(b, p, (struct question){.call = PLACES_ELEMENT, .number = i}, end)
+#define VIEW_ENDS(p, k, i, end) ends_at(b, p, (struct question){.call = PLACES_VIEW, .kind = k, .number = i}, end)
+#define SECTION_ENDS(p, k, end) ends_at(b, p, (struct question){.call = PLACES_SECTION, .kind = k}, end)
+
+/* What each query needs, in plain numbers, of shape 7; then every shape cut at every byte. */
+static void test_places_ends(void) {
+    uint8_t b[1000], again[1000];
+    qollqamir_places p, q;
+    CHECK(box_shape(b, 7, 0, &p) == 500);
+    INFO_ENDS(p, 56);
+    RESOURCE_ENDS(p, 0, 96);
+    RESOURCE_ENDS(p, 1, 124);
+    ELEMENT_ENDS(p, 0, 184);
+    ELEMENT_ENDS(p, 2, 232);
+    VIEW_ENDS(p, QOLLQAMIR_STAGE_UNION, 0, 56);
+    VIEW_ENDS(p, QOLLQAMIR_ELEMENT_STRING, 0, 184);
+    VIEW_ENDS(p, QOLLQAMIR_ELEMENT_STRING, 2, 232);
+    VIEW_ENDS(p, QOLLQAMIR_ELEMENT_ARRAY, 1, 208);
+    VIEW_ENDS(p, QOLLQAMIR_ENTRY_NAME, 0, 144);
+    VIEW_ENDS(p, QOLLQAMIR_MASK, 0, 252);
+    VIEW_ENDS(p, QOLLQAMIR_MASK, 1, 252);
+    VIEW_ENDS(p, QOLLQAMIR_MASK, 4, 260);
+    VIEW_ENDS(p, QOLLQAMIR_MASK, 5, 404);
+    VIEW_ENDS(p, QOLLQAMIR_MASK, 9, 500);
+    VIEW_ENDS(p, QOLLQAMIR_MASK, 10, 500);
+    SECTION_ENDS(p, QOLLQAMIR_RUNTIME_RECORD, 56);
+    SECTION_ENDS(p, QOLLQAMIR_RESOURCE_RECORDS, 128);
+    SECTION_ENDS(p, QOLLQAMIR_STRING_TABLE, 144);
+    SECTION_ENDS(p, QOLLQAMIR_INDEX_TABLE, 164);
+    SECTION_ENDS(p, QOLLQAMIR_ELEMENT_RECORDS, 240);
+    SECTION_ENDS(p, QOLLQAMIR_MASKS, 500);
+
+    /* The runtime record and the stage union by the recorded edition; one above 3 counts as 3. */
+    static const uint32_t editions[] = {0, 1, 2, 3, 4, 5, 256, UINT32_MAX};
+    static const size_t info_ends[] = {28, 40, 52, 56, 56, 56, 56, 56};
+    for (size_t k = 0; k < 8; k++) {
+        q = p;
+        q.edition = editions[k];
+        INFO_ENDS(q, info_ends[k]);
+        VIEW_ENDS(q, QOLLQAMIR_STAGE_UNION, 0, info_ends[k]);
+        SECTION_ENDS(q, QOLLQAMIR_RUNTIME_RECORD, info_ends[k]);
+        /* 24 bytes of a resource from edition 2 on, where records have as many. */
+        RESOURCE_ENDS(q, 1, k < 2 ? 116 : 124);
+        for (q.resource_size = 0; q.resource_size <= 24; q.resource_size++) {
+            RESOURCE_ENDS(q, 0, k < 2 || q.resource_size < 24 ? 88 : 96);
+            RESOURCE_ENDS(q, 1, (k < 2 || q.resource_size < 24 ? 88 : 96) + q.resource_size);
+        }
+        if (k >= 3) {
+            VIEW_ENDS(q, QOLLQAMIR_ENTRY_NAME, 0, 144);
+        }
+        if (k >= 1) {
+            ELEMENT_ENDS(q, 1, 208);
+            VIEW_ENDS(q, QOLLQAMIR_ELEMENT_STRING, 1, 208);
+        } else {
+            /* At edition 0 sections 3 to 6 are empty, whatever the places say. */
+            for (uint32_t section = 2; section < 6; section++) {
+                SECTION_ENDS(q, section, 0);
+            }
+        }
+    }
+    /* Records of no size all stand at one place. */
+    q = p;
+    q.element_size = 0;
+    ELEMENT_ENDS(q, 2, 184);
+
+    /* The tables and the runtime record at the end: the whole table is needed, though the string or the array stands at its front. */
+    put(again, b, 500);
+    put(b + 488, b + 132, 12);
+    q = p;
+    q.strings = 488;
+    VIEW_ENDS(q, QOLLQAMIR_ELEMENT_STRING, 0, 500);
+    VIEW_ENDS(q, QOLLQAMIR_ENTRY_NAME, 0, 500);
+    q = p;
+    q.indices = 484;
+    VIEW_ENDS(q, QOLLQAMIR_ELEMENT_ARRAY, 0, 500);
+    VIEW_ENDS(q, QOLLQAMIR_ELEMENT_ARRAY, 2, 500);
+    put32(b + 172, 0);
+    b[176] = 1;
+    VIEW_ENDS(q, QOLLQAMIR_ELEMENT_ARRAY, 0, 500);
+    put(b, again, 500);
+    put(b + 448, b + 4, 52);
+    q = p;
+    q.runtime = 448;
+    VIEW_ENDS(q, QOLLQAMIR_ENTRY_NAME, 0, 500);
+    INFO_ENDS(q, 500);
+    /* Tables that are empty but for their place. */
+    q = p;
+    q.string_bytes = q.index_count = q.resource_count = q.element_count = 0;
+    q.strings = q.indices = q.resources = q.elements = 300;
+    for (uint32_t section = QOLLQAMIR_RESOURCE_RECORDS; section <= QOLLQAMIR_ELEMENT_RECORDS; section++) {
+        SECTION_ENDS(q, section, 300);
+    }
+
+    for (size_t k = 0; k < SHAPES; k++) {
+        size_t len = box_shape(b, k, 0, &p);
+        for (size_t n = 0; n <= len; n++) {
+            ask_places(b, n, p);
+        }
+    }
+}
+
+#undef INFO_ENDS
+#undef RESOURCE_ENDS
+#undef ELEMENT_ENDS
+#undef VIEW_ENDS
+#undef SECTION_ENDS
+
+/* The answer of one query by places, its number checked. */
+static qollqamir_span viewed(const uint8_t *b, size_t len, qollqamir_places p, uint32_t kind, size_t number, size_t expected) {
+    struct question q = {.call = PLACES_VIEW, .bytes = b, .len = len, .places = p, .kind = kind, .number = number};
+    CHECK(ask(&q).number == expected);
+    return qollqamir_places_view(b, len, p, kind, number);
+}
+
+static uint32_t next_number(uint32_t *state) {
+    *state = *state * 1664525 + 1013904223;
+    return *state >> 8;
+}
+
+/* Other bytes and made-up places. */
+static void test_places_made_up(void) {
+    uint8_t b[1000];
+    qollqamir_places p, q;
+    size_t len = box_shape(b, 7, 0, &p);
+
+    /* 26 by the places alone, before 29, with bytes and without; kinds and sections that there are not. */
+    for (size_t n = 0; n <= len; n += len) {
+        const uint8_t *bytes = n == 0 ? NULL : b;
+        for (uint32_t edition = 0; edition <= 5; edition++) {
+            q = p;
+            q.edition = edition;
+            static const size_t numbers[] = {3, 4, 9, UINT32_MAX, (size_t)1 << 32, ((size_t)1 << 32) + 1, SIZE_MAX};
+            for (size_t k = 0; k < 7; k++) {
+                REFUSED(qollqamir_places_resource(bytes, n, q, numbers[k]), 26, 0);
+                REFUSED(qollqamir_places_element(bytes, n, q, numbers[k]), 26, 0);
+                viewed(bytes, n, q, QOLLQAMIR_ELEMENT_STRING, numbers[k], 26);
+                viewed(bytes, n, q, QOLLQAMIR_ELEMENT_ARRAY, numbers[k], 26);
+                viewed(bytes, n, q, QOLLQAMIR_MASK, numbers[k] < 11 ? 11 : numbers[k], 26);
+                viewed(bytes, n, q, 5 + (uint32_t)k, 0, 26);
+                REFUSED(qollqamir_places_section(bytes, n, q, 6 + (uint32_t)k), 26, 0);
+            }
+            viewed(bytes, n, q, UINT32_MAX, 0, 26);
+            REFUSED(qollqamir_places_section(bytes, n, q, UINT32_MAX), 26, 0);
+            REFUSED(qollqamir_places_resource(bytes, n, q, 2), 26, 0);
+            size_t there = n == 0 ? 29 : 0;
+            REFUSED(qollqamir_places_resource(bytes, n, q, 1), there, 0);
+            REFUSED(qollqamir_places_element(bytes, n, q, 2), edition == 0 ? 26 : there, 0);
+            viewed(bytes, n, q, QOLLQAMIR_ELEMENT_STRING, 2, edition == 0 ? 26 : there);
+            viewed(bytes, n, q, QOLLQAMIR_ELEMENT_ARRAY, 2, edition == 0 ? 26 : there);
+            viewed(bytes, n, q, QOLLQAMIR_MASK, 10, edition == 0 ? 26 : there);
+            viewed(bytes, n, q, QOLLQAMIR_ENTRY_NAME, 0, edition < 3 ? 26 : there);
+            ask_places(bytes, n, q);
+            /* Lengths are those of the places. */
+            q.resource_count = 11;
+            q.string_bytes = 12;
+            q.index_count = 13;
+            q.element_count = UINT32_MAX;
+            qollqamir_list_lengths lengths = qollqamir_places_lengths(bytes, n, q);
+            ACCEPTED(lengths);
+            SET(lengths.resources, 11);
+            if (edition == 0) {
+                UNSET(lengths.strings);
+                UNSET(lengths.indices);
+                UNSET(lengths.elements);
+            } else {
+                SET(lengths.strings, 12);
+                SET(lengths.indices, 13);
+                SET(lengths.elements, UINT32_MAX);
+            }
+        }
+    }
+
+    /* The recorded stage decides what is set; the stage that is shown is that of the byte. */
+    static const uint32_t stages[] = {0, 1, 2, 3, 4, 5, 6, 12, 13, 14, 15, 16, 258, 269, UINT32_MAX};
+    for (size_t k = 0; k < sizeof stages / sizeof *stages; k++) {
+        for (uint32_t edition = 0; edition <= 5; edition++) {
+            for (int byte = 0; byte < 256; byte += 3) {
+                q = p;
+                q.stage = stages[k];
+                q.edition = edition;
+                b[4 + 24] = (uint8_t)byte;
+                struct question question = {.call = PLACES_INFO, .bytes = b, .len = len, .places = q};
+                ask(&question);
+            }
+        }
+    }
+    b[4 + 24] = 5;
+    p.stage = 13;
+    qollqamir_info info = qollqamir_places_runtime_info(b, len, p);
+    ACCEPTED(info);
+    SET(info.stage, 5);
+    SET(info.patch_vectors, 9);
+    SET(info.mesh_topology, 0);
+    UNSET(info.max_vertex_count);
+    SET(info.threads_z, get32(b + 4 + 44));
+    p.stage = 2;
+    info = qollqamir_places_runtime_info(b, len, p);
+    SET(info.stage, 5);
+    SET(info.max_vertex_count, 9);
+    UNSET(info.patch_vectors);
+    UNSET(info.threads_x);
+
+    /* References: the string's table is bytes 132 to 143, ABC0EFG0IJK0; the element's record at 168. */
+    CHECK(says(b, viewed(b, len, p, QOLLQAMIR_ELEMENT_STRING, 0, 0), "ABC", 3));
+    static const struct { uint32_t o; const char *says; } names[] = {
+        {2, "C"}, {3, ""}, {5, "FG"}, {10, "K"}, {11, ""}, {12, NULL}, {13, NULL}, {144, NULL}, {UINT32_MAX, NULL},
+    };
+    for (int entry = 0; entry < 2; entry++) {
+        uint32_t kind = entry ? QOLLQAMIR_ENTRY_NAME : QOLLQAMIR_ELEMENT_STRING;
+        uint8_t *reference = b + (entry ? 4 + 48 : 168);
+        for (size_t k = 0; k < sizeof names / sizeof *names; k++) {
+            put32(reference, names[k].o);
+            qollqamir_span span = viewed(b, len, p, kind, 0, names[k].says == NULL ? 29 : 0);
+            CHECK(names[k].says == NULL || says(b, span, names[k].says, strlen(names[k].says)));
+            CHECK(names[k].says == NULL || span.start == 132 + names[k].o);
+        }
+        put32(reference, 8);
+        b[143] = 'L'; /* No zero inside the table, though one stands after it. */
+        b[144] = 0;
+        viewed(b, len, p, kind, 0, 29);
+        put(b + 140, "\xc3\xa9z", 4);
+        CHECK(says(b, viewed(b, len, p, kind, 0, 0), "\xc3\xa9z", 3));
+        put(b + 140, "\xe9zz", 4);
+        viewed(b, len, p, kind, 0, 29);
+        put(b + 140, "IJK", 4);
+        put32(b + 144, 4);
+    }
+    put32(b + 168, 0);
+    static const struct { uint32_t i; uint8_t rows; size_t number; } arrays[] = {
+        {0, 4, 0}, {0, 5, 29}, {3, 1, 0}, {3, 2, 29}, {4, 0, 0}, {4, 1, 29}, {5, 0, 29}, {1, 3, 0}, {0, 255, 29}, {UINT32_MAX, 0, 29},
+        {UINT32_MAX, 1, 29}, {UINT32_MAX - 254, 255, 29}, {0x40000000, 0, 29}, {0x80000000, 4, 29},
+    };
+    for (size_t k = 0; k < sizeof arrays / sizeof *arrays; k++) {
+        put32(b + 172, arrays[k].i);
+        b[176] = arrays[k].rows;
+        qollqamir_span span = viewed(b, len, p, QOLLQAMIR_ELEMENT_ARRAY, 0, arrays[k].number);
+        CHECK(arrays[k].number != 0 || shows(b, span, b + 148 + 4 * arrays[k].i, 4 * (size_t)arrays[k].rows));
+        /* The element's other query and its record don't look at it. */
+        viewed(b, len, p, QOLLQAMIR_ELEMENT_STRING, 0, 0);
+        ACCEPTED(qollqamir_places_element(b, len, p, 0));
+    }
+
+    /* Numbers about the bytes' length, of every shape. */
+    size_t before[CALLS], refused_before[CALLS];
+    memcpy(before, accepted, sizeof before);
+    memcpy(refused_before, refused, sizeof refused_before);
+    uint32_t state = 11;
+    for (size_t k = 0; k < 3000; k++) {
+        uint32_t numbers[25];
+        len = box_shape(b, k % SHAPES, 0, &p);
+        memcpy(numbers, &p, sizeof numbers);
+        for (uint32_t changes = 1 + next_number(&state) % 4; changes > 0; changes--) {
+            uint32_t *n = &numbers[next_number(&state) % 25], way = next_number(&state) % 4;
+            *n = way == 0 ? next_number(&state) % (uint32_t)(len + 4) : way == 1 ? next_number(&state) % 8 :
+                 way == 2 ? *n + 1 - next_number(&state) % 3 : (uint32_t)len - next_number(&state) % 64;
+        }
+        memcpy(&p, numbers, sizeof numbers);
+        ask_places(b, len - next_number(&state) % 3, p);
+    }
+    for (enum call call = PLACES_INFO; call <= PLACES_SECTION; call++) {
+        CHECK(accepted[call] - before[call] > 500 && (call == PLACES_LENGTHS || refused[call] - refused_before[call] > 50));
+    }
+}
+
+/* Numbers as great as 32 bits hold: no sum or product of them wraps. */
+static void test_places_great(void) {
+    static const uint32_t great[] = {0x10000,    0x3fffffff, 0x40000000, 0x40000001, 0x40000004,
+                                     0x7fffffff, 0x80000000, 0xfffffff0, 0xfffffffc, UINT32_MAX};
+    uint8_t b[1000];
+    qollqamir_places p, q;
+    for (size_t k = 1; k < SHAPES; k += 2) {
+        size_t len = box_shape(b, k, 0, &p);
+        for (size_t g = 0; g < sizeof great / sizeof *great; g++) {
+            uint32_t numbers[25];
+            for (size_t i = 0; i <= 25; i++) {
+                memcpy(numbers, &p, sizeof numbers);
+                for (size_t j = 0; j < 25; j++) {
+                    numbers[j] = i == j || i == 25 ? great[g] : numbers[j];
+                }
+                memcpy(&q, numbers, sizeof numbers);
+                ask_places(b, len, q);
+                ask_places(NULL, 0, q);
+            }
+        }
+    }
+    size_t len = box_shape(b, 7, 0, &p);
+#define ASK(expected, ...) CHECK(ask(&(struct question){.bytes = b, .len = len, .places = q, __VA_ARGS__}).number == (expected))
+    /* Places just below 2^32, whose records would end at the front. */
+    q = p;
+    q.runtime = q.resources = q.strings = q.indices = q.elements = q.masks = (uint32_t)-8;
+    ASK(29, .call = PLACES_INFO);
+    ASK(29, .call = PLACES_VIEW, .kind = QOLLQAMIR_STAGE_UNION);
+    ASK(29, .call = PLACES_RESOURCE, .number = 1);
+    ASK(29, .call = PLACES_ELEMENT, .number = 1);
+    ask_places(b, len, q);
+    /* Record i at 2^32 and a little: at the front if it wrapped. */
+    q = p;
+    q.resource_count = q.element_count = UINT32_MAX;
+    q.resource_size = q.element_size = 0x10000;
+    ASK(29, .call = PLACES_RESOURCE, .number = 0x10000);
+    ASK(29, .call = PLACES_ELEMENT, .number = 0x10000);
+    ASK(29, .call = PLACES_VIEW, .kind = QOLLQAMIR_ELEMENT_STRING, .number = 0x10000);
+    ASK(29, .call = PLACES_VIEW, .kind = QOLLQAMIR_ELEMENT_ARRAY, .number = 0x10000);
+    ASK(29, .call = PLACES_RESOURCE, .number = UINT32_MAX - 1);
+    ASK(29, .call = PLACES_ELEMENT, .number = UINT32_MAX - 1);
+    ASK(26, .call = PLACES_RESOURCE, .number = UINT32_MAX);
+    ASK(26, .call = PLACES_ELEMENT, .number = (size_t)1 << 32);
+    ASK(0, .call = PLACES_RESOURCE, .number = 0);
+    /* Sections of 2^32 bytes, none if they wrapped. */
+    q.resource_count = q.element_count = 0x10000;
+    ASK(29, .call = PLACES_SECTION, .kind = QOLLQAMIR_RESOURCE_RECORDS);
+    ASK(29, .call = PLACES_SECTION, .kind = QOLLQAMIR_ELEMENT_RECORDS);
+    q.index_count = 0x40000000;
+    ASK(29, .call = PLACES_SECTION, .kind = QOLLQAMIR_INDEX_TABLE);
+    ASK(29, .call = PLACES_VIEW, .kind = QOLLQAMIR_ELEMENT_ARRAY, .number = 0);
+    /* The same and the four numbers that there are. */
+    q.index_count = 0x40000004;
+    ASK(29, .call = PLACES_SECTION, .kind = QOLLQAMIR_INDEX_TABLE);
+    ASK(29, .call = PLACES_VIEW, .kind = QOLLQAMIR_ELEMENT_ARRAY, .number = 0);
+    /* Masks of 2^32 bytes: the next at the front if it wrapped, and all of them empty. */
+    q = p;
+    memset(q.mask_words, 0, sizeof q.mask_words);
+    q.mask_words[0] = 0x40000000;
+    ASK(29, .call = PLACES_VIEW, .kind = QOLLQAMIR_MASK, .number = 0);
+    ASK(29, .call = PLACES_VIEW, .kind = QOLLQAMIR_MASK, .number = 1);
+    ASK(29, .call = PLACES_SECTION, .kind = QOLLQAMIR_MASKS);
+    q.mask_words[0] = q.mask_words[1] = 0x20000000;
+    ASK(29, .call = PLACES_VIEW, .kind = QOLLQAMIR_MASK, .number = 2);
+    ASK(29, .call = PLACES_SECTION, .kind = QOLLQAMIR_MASKS);
+    memset(q.mask_words, 0xff, sizeof q.mask_words);
+    for (size_t mask = 0; mask <= 10; mask++) {
+        ASK(29, .call = PLACES_VIEW, .kind = QOLLQAMIR_MASK, .number = mask);
+    }
+    ASK(29, .call = PLACES_SECTION, .kind = QOLLQAMIR_MASKS);
+    /* The words of every mask count, by themselves and before the next. */
+    memset(q.mask_words, 0, sizeof q.mask_words);
+    for (size_t mask = 0; mask <= 10; mask++) {
+        q.mask_words[mask] = (uint32_t)mask + 1;
+    }
+    q.masks = 100;
+    for (size_t mask = 0; mask <= 10; mask++) {
+        CHECK(shows(b, viewed(b, len, q, QOLLQAMIR_MASK, mask, 0), b + 100 + 2 * mask * (mask + 1), 4 * (mask + 1)));
+    }
+    CHECK(shows(b, qollqamir_places_section(b, len, q, QOLLQAMIR_MASKS), b + 100, 264));
+#undef ASK
+}
+
+/* PSV0 data of every shape replaced by those of every other and of the same, first, in the middle and last: the container that is laid out
+   with the new data from the start, its places, and what stood past it. */
+static void test_replace(void) {
+    uint8_t old[1000], new[1000], bytes[1000], stood[1000], expected[1000], out[1000];
+    size_t equal = 0, longer = 0, shorter = 0;
+    for (size_t k = 0; k < SHAPES * SHAPES * WAYS * 5; k++) {
+        size_t from = k / 5 / WAYS / SHAPES, to = k / 5 / WAYS % SHAPES, way = k / 5 % WAYS, edition = k % 5;
+        qollqamir_places places;
+        size_t old_len = box_shape(old, from, 0, &places), new_len = box_shape(new, to, data_at[way], &places);
+        size_t len = box_placed(bytes, way, old, old_len), result = box_placed(expected, way, new, new_len);
+        memcpy(stood, bytes, sizeof stood);
+        size_t number = edition == 4 ? 25 : plain_shape(to) ? 0 : 27;
+        const size_t rooms[] = {sizeof out, result, result - 1, 0};
+        for (size_t r = 0; r < 4; r++) {
+            memset(out, 0xee - (int)r, sizeof out);
+            uint8_t kept_byte = out[0];
+            qollqamir_replaced answered = {.verdict = {number == 0 && r >= 2 ? 28 : number, 0}};
+            if (answered.verdict.number == 0) {
+                answered.len = (uint32_t)result;
+                answered.places = read_at(places, edition);
+            }
+            qollqamir_replaced replaced = qollqamir_replace_psv0(bytes, len, edition, new, new_len, out, rooms[r]);
+            SAME(qollqamir_replaced, replaced, answered);
+            CHECK(memcmp(out, expected, replaced.len) == 0);
+            for (size_t i = replaced.len; i < sizeof out; i++) {
+                CHECK(out[i] == kept_byte);
+            }
+            CHECK(memcmp(bytes, stood, sizeof bytes) == 0);
+            if (replaced.verdict.number != 0) {
+                continue;
+            }
+            SAME(qollqamir_places, qollqamir_open_places(out, result, edition).places, replaced.places);
+            if (r == 1) {
+                same_as_fresh(out, result, edition, false, replaced.places);
+                /* Replaced back: the bytes from the start. */
+                if (plain_shape(from)) {
+                    uint8_t back[1000];
+                    CHECK(qollqamir_replace_psv0(out, result, edition, old, old_len, back, len).len == len);
+                    CHECK(memcmp(back, bytes, len) == 0);
+                }
+                equal += from == to;
+                longer += new_len > old_len;
+                shorter += new_len < old_len;
+            }
+        }
+    }
+    CHECK(equal == 6 * WAYS * 4 && longer == 20 * WAYS * 4 && shorter == 34 * WAYS * 4);
+
+    /* Other data of the same length; the places of the bytes as they were stay good for those, and here for the result too. */
+    qollqamir_places places;
+    size_t old_len = box_shape(old, 3, 0, &places), len = box_placed(bytes, 2, old, old_len);
+    memcpy(new, old, old_len);
+    put32(new + 4 + 16, 77);
+    qollqamir_opened opened = qollqamir_open_places(bytes, len, 3);
+    qollqamir_replaced replaced = qollqamir_replace_psv0(bytes, len, 3, new, old_len, out, sizeof out);
+    ACCEPTED(replaced);
+    CHECK(replaced.len == len && get32(out + 82 + 20) == 77);
+    SAME(qollqamir_places, replaced.places, opened.places);
+    SET(qollqamir_places_runtime_info(out, len, replaced.places).minimum_wave_lanes, 77);
+    SET(qollqamir_places_runtime_info(bytes, len, opened.places).minimum_wave_lanes, get32(old + 20));
+
+    /* What makes data that reader 3 accepts other than plain, one at a time: a longer runtime record, resource record or element record,
+       resource records of another edition's size, bytes after the last section. */
+    static const struct { size_t shape, field; uint32_t number; } others[] = {
+        {0, offsetof(struct shape, s), 28}, {0, offsetof(struct shape, s), 32},
+        {1, offsetof(struct shape, s), 40}, {1, offsetof(struct shape, s), 44},
+        {3, offsetof(struct shape, s), 56}, {9, offsetof(struct shape, s), 60},
+        {1, offsetof(struct shape, resource_size), 20}, {1, offsetof(struct shape, resource_size), 24},
+        {2, offsetof(struct shape, resource_size), 16}, {2, offsetof(struct shape, resource_size), 28},
+        {3, offsetof(struct shape, resource_size), 20}, {8, offsetof(struct shape, resource_size), 28},
+        {1, offsetof(struct shape, element_size), 20}, {3, offsetof(struct shape, element_size), 24},
+    };
+    for (size_t k = 0; k < sizeof others / sizeof *others; k++) {
+        struct shape other = shapes[others[k].shape];
+        memcpy((uint8_t *)&other + others[k].field, &others[k].number, sizeof(uint32_t));
+        size_t new_len = box_of(new, &other, 0, &places);
+        ACCEPTED(qollqamir_psv0_open(new, new_len, 3));
+        for (size_t edition = 0; edition <= 3; edition++) {
+            REFUSED(qollqamir_replace_psv0(bytes, len, edition, new, new_len, out, sizeof out), 27, 0);
+        }
+    }
+    for (uint32_t size = 16; size <= 24; size += 4) {
+        size_t new_len = box_of(new, &(struct shape){.s = 24, .resources = 2, .resource_size = size}, 0, &places);
+        REFUSED(qollqamir_replace_psv0(bytes, len, 3, new, new_len, out, sizeof out), size == 16 ? 0 : 27, 0);
+    }
+    for (size_t k = 0; k < SHAPES; k++) {
+        size_t new_len = box_shape(new, k, 0, &places);
+        for (size_t more = 0; more <= 4; more++) {
+            for (size_t edition = 0; edition <= 3; edition++) {
+                memset(out, 0xee, sizeof out);
+                replaced = qollqamir_replace_psv0(bytes, len, edition, new, new_len + more, out, sizeof out);
+                REFUSED(replaced, more == 0 && plain_shape(k) ? 0 : 27, 0);
+                CHECK(replaced.verdict.number == 0 || (replaced.len == 0 && out[0] == 0xee && out[999] == 0xee));
+            }
+        }
+    }
+}
+
+/* As many parts as there may be, with the PSV0 data first, last and between: every offset after them moves, and none before. */
+static void test_replace_many(void) {
+    static const size_t numbers[] = {0, 1, 47, 94, 95}, pairs[][2] = {{0, 3}, {3, 0}, {7, 1}};
+    static uint8_t bytes[4096], expected[4096], out[4096];
+    for (size_t k = 0; k < 15; k++) {
+        size_t number = numbers[k / 3], from = pairs[k % 3][0], to = pairs[k % 3][1];
+        uint8_t old[1000], new[1000];
+        qollqamir_places places;
+        size_t old_len = box_shape(old, from, 0, &places), new_len = box_shape(new, to, 0, &places);
+        struct entry entries[96];
+        for (uint32_t i = 0; i < 96; i++) {
+            entries[i] = (struct entry){"PRIV", i % 3, 0, i % 4, 0, "abc"};
+        }
+        entries[number == 0 ? 1 : 0] = (struct entry){"DXIL", 0, 0, 4, 0, "code"};
+        entries[number] = (struct entry){"PSV0", 1, 0, (uint32_t)old_len, 0, old};
+        size_t len = lay_out(bytes, entries, 96, 2);
+        entries[number] = (struct entry){"PSV0", 1, 0, (uint32_t)new_len, 0, new};
+        size_t result = lay_out(expected, entries, 96, 2), at = get32(expected + 32 + 4 * number) + (size_t)8;
+        box_shape(new, to, at, &places);
+        for (size_t edition = 0; edition <= 3; edition++) {
+            memset(out, 0xee, sizeof out);
+            qollqamir_replaced replaced = qollqamir_replace_psv0(bytes, len, edition, new, new_len, out, sizeof out);
+            SAME(qollqamir_replaced, replaced, ((qollqamir_replaced){{0, 0}, (uint32_t)result, read_at(places, edition)}));
+            CHECK(memcmp(out, expected, result) == 0);
+            CHECK(out[result] == 0xee && memcmp(out + result, out + result + 1, sizeof out - result - 1) == 0);
+            same_as_fresh(out, result, edition, false, replaced.places);
+            ACCEPTED(read_table(out, result));
+        }
+    }
+}
+
+/* The refusals in order: every set of faults gives the first of them, and nothing is written. */
+static void test_replace_order(void) {
+    static const struct entry m[2] = {{"DXIL", 0, 40, 4, 0, "code"}, {"PSV0", 0, 52, 32, 0, plain}};
+    static const size_t numbers[] = {25, 3, 12, 27, 2, 28, 0};
+    static uint8_t far[GREATEST + 1];
+    uint8_t new[1000], head[1000], expected[1000];
+    qollqamir_places places;
+    /* In box M the PSV0 data start at byte 60. */
+    size_t new_len = box_shape(new, 9, 60, &places);
+    CHECK(new_len == 72);
+    memset(far, 0xee, sizeof far);
+    for (unsigned set = 0; set < 64; set++) {
+        size_t first = 0;
+        while (first < 6 && (set >> first & 1) == 0) {
+            first++;
+        }
+        /* The result has 40 bytes more than the container. */
+        size_t len = lay_out(greatest, m, 2, GREATEST - 40 - 92 + (set & 16 ? 1 : 0)), result = len + 40;
+        greatest[0] = set & 2 ? 'X' : 'D';
+        put32(new, set & 4 ? 26 : 52);
+        qollqamir_replaced replaced = qollqamir_replace_psv0(greatest, len, set & 1 ? 4 : 3, new, new_len + (set & 8 ? 1 : 0), far,
+                                                             set & 32 ? result - 1 : result);
+        REFUSED(replaced, numbers[first], 0);
+        if (set != 0) {
+            SAME(qollqamir_replaced, replaced, ((qollqamir_replaced){.verdict = {numbers[first], 0}}));
+            CHECK(far[0] == 0xee && far[24] == 0xee && far[132] == 0xee && far[GREATEST - 1] == 0xee);
+            continue;
+        }
+        /* The greatest length that a result may have. */
+        CHECK(replaced.len == GREATEST);
+        SAME(qollqamir_places, replaced.places, places);
+        put(head, greatest, 92);
+        put32(head + 24, 92);
+        put_replaced(expected, head, 92, new, new_len);
+        put32(expected + 24, GREATEST);
+        CHECK(memcmp(far, expected, 132) == 0 && memcmp(far + 132, greatest + 92, GREATEST - 132) == 0 && far[GREATEST] == 0xee);
+        ACCEPTED(qollqamir_open(far, GREATEST, 3));
+        memset(far, 0xee, sizeof far);
+    }
+    CHECK(far[0] == 0xee && memcmp(far, far + 1, GREATEST) == 0);
+
+    /* A plain part that is itself nearly as long as may be: 2 before 28. One word more after it: 27 before 2. One too long for reader 3:
+       2. */
+    uint8_t bytes[128], out[128];
+    size_t len = shader(bytes, plain, 32);
+    uint32_t records = (GREATEST - 36) / 16;
+    memset(out, 0xee, sizeof out);
+    memset(greatest, 0, sizeof greatest);
+    put32(greatest, 24);
+    put32(greatest + 28, records);
+    put32(greatest + 32, 16);
+    REFUSED(qollqamir_replace_psv0(bytes, len, 3, greatest, 36 + 16 * (size_t)records, out, sizeof out), 2, 0);
+    REFUSED(qollqamir_replace_psv0(bytes, len, 3, greatest, 36 + 16 * (size_t)records + 4, out, sizeof out), 27, 0);
+    REFUSED(qollqamir_replace_psv0(bytes, len, 3, greatest, GREATEST, out, sizeof out), 27, 0);
+    REFUSED(qollqamir_replace_psv0(bytes, len, 3, greatest, GREATEST + 1, out, sizeof out), 2, 0);
+    /* A container too long, before a part that has a fault. */
+    box_longest();
+    REFUSED(qollqamir_replace_psv0(greatest, GREATEST + 1, 3, plain, 3, out, sizeof out), 2, 0);
+    REFUSED(qollqamir_replace_psv0(greatest, GREATEST, 3, plain, 3, out, sizeof out), 12, 0);
+    for (size_t i = 0; i < sizeof out; i++) {
+        CHECK(out[i] == 0xee);
+    }
+
+    /* Every fault of reader 3 in box S, in the part and in the container, at every edition: the part is judged at edition 3 whatever is
+       asked. */
+    uint8_t psv0[256], good[256], bad[512];
+    size_t psv0_len = box_s(psv0);
+    memcpy(good, psv0, psv0_len);
+    for (size_t k = 0; k < FAULTS_IN_S; k++) {
+        size_t number = faults_in_s[k].number, place = faults_in_s[k].place;
+        size_t bad_len = changed(bad, shader(bad, good, psv0_len), faults_in_s[k].at, faults_in_s[k].put);
+        memset(expected, 0xee, sizeof expected);
+        for (size_t edition = 0; edition <= 3; edition++) {
+            /* Opening judges 15 to 23 from edition 1 on, 24 at 3. */
+            bool judged = number < 15 || (edition >= 1 && number < 24) || edition == 3;
+            size_t room = judged ? sizeof expected : 0;
+            qollqamir_replaced replaced = qollqamir_replace_psv0(bad, bad_len, edition, good, psv0_len, expected, room);
+            SAME(qollqamir_replaced, replaced, ((qollqamir_replaced){.verdict = {judged ? number : 28, judged ? place : 0}}));
+            if (number >= 12) {
+                replaced = qollqamir_replace_psv0(bytes, len, edition, bad + 60, psv0_len, expected, sizeof expected);
+                SAME(qollqamir_replaced, replaced, ((qollqamir_replaced){.verdict = {number, place}}));
+            }
+        }
+        CHECK(expected[0] == 0xee && expected[999] == 0xee);
+    }
 }
 
 /* ---- null pointers */
@@ -3640,6 +4912,21 @@ static void test_null(void) {
             }
         }
     }
+
+    /* Places of an edition and no records: without bytes 26 comes before 29, and lengths have no need of any. */
+    for (uint32_t edition = 0; edition <= 4; edition++) {
+        ask_places(NULL, 0, (qollqamir_places){.edition = edition});
+        ask_places(NULL, 0, (qollqamir_places){.edition = edition, .resource_count = 2, .element_count = 2});
+    }
+    static const size_t no_pieces[2];
+    for (size_t edition = 0; edition <= 4; edition++) {
+        qollqamir_verdict none = ask(&(struct question){.call = REPLACE_PSV0, .edition = edition, .pieces = no_pieces});
+        CHECK(none.number == (edition == 4 ? 25 : 1) && none.place == 0);
+    }
+    uint8_t box[128];
+    size_t box_len = shader(box, plain, 32);
+    REFUSED(qollqamir_replace_psv0(box, box_len, 3, NULL, 0, NULL, 0), 12, 0);
+    REFUSED(qollqamir_replace_psv0(box, box_len, 3, plain, 32, NULL, 0), 28, 0);
 
     qollqamir_verdict verdict = ask(&(struct question){.call = DXIL_PROGRAM});
     CHECK(verdict.number == 40 && verdict.place == 0);
@@ -3724,6 +5011,13 @@ int main(void) {
     test_figures_full();
     test_figures_join();
     test_figures_join_stays();
+    test_places();
+    test_places_ends();
+    test_places_made_up();
+    test_places_great();
+    test_replace();
+    test_replace_many();
+    test_replace_order();
     test_every_byte();
     test_null();
     printf("c boundary: %d checks passed\n", checks);

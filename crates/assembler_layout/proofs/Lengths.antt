@@ -18,7 +18,7 @@ use Rattle.wire.proofs.Numbers.{le32-length}
 use Rattle.wire.proofs.Verdicts.{then-accepted, check-accepted, check-then, each-accepted}
 use Rattle.part_table_layout.specs.Table.{nameJudged}
 use Rattle.part_table_layout.proofs.Accepted.{Fresh, name-told}
-use Rattle.assembler_layout.specs.Assembled.{Parts, total, partCount, sizeGiven, nameGiven, nameBytes, dataGiven, roundUp, endBefore, startOf, fileLength, offsetsFrom, partBytes, partsFrom, partsRight, assemblyJudged}
+use Rattle.assembler_layout.specs.Assembled.{Parts, total, partCount, sizeGiven, nameGiven, nameBytes, dataGiven, roundUp, endBefore, startOf, fileLength, partBytes, partsFrom, partsRight, assemblyJudged}
 
 -- 27
 pub record Right (g : Parts) : Type 0 where
@@ -81,11 +81,6 @@ pub earliest-multiple : (n s : ℕ) → n ≤ s → s % 4 ≡ 0 → roundUp n �
 earliest-multiple n s h e = omega arith
 
 module _ (g : Parts) where
-  pub offsets-length : (k m : ℕ) → length (offsetsFrom g k m) ≡ 4 * m
-  unfolding offsetsFrom
-  offsets-length k zero = refl
-  offsets-length k (suc m) = simp (length-append, le32-length, offsets-length (suc k) m) (omega arith)
-
   pub start-after : (k : ℕ) → endBefore g k ≤ startOf g k
   start-after k = round-up (endBefore g k) .0
 

@@ -7,31 +7,13 @@ use native.Mathlib.Nat.{add-zero}
 use native.Mathlib.Numerals.{add-one}
 use native.Mathlib.Omega.{arith}
 use lib.ListN.{length, take, drop, replicate, length-append, length-replicate}
-use lib.Seq.{take-at, drop-at, drop-drop}
+use lib.Seq.{drop-at}
 use Rattle.wire.specs.Number.{u16At, u32At, le16, le32}
-use Rattle.wire.proofs.Numbers.{le16-length, le32-length, u32-le32, u16-le16, u32-front, u32-take, u32-drop, u16-drop}
+use Rattle.wire.proofs.Numbers.{le16-length, le32-length, u32-front, u32-take, u32-drop}
 use Rattle.part_table_layout.specs.Table.{magic}
+use Rattle.part_table_layout.proofs.Laid.{rest-at, part-at, word-at, half-at, offsets-length, offsets-grow, offset-in}
 use Rattle.assembler_layout.specs.Assembled.{Parts, partCount, sizeGiven, nameGiven, nameBytes, dataGiven, endBefore, startOf, fileLength, offsetsFrom, partBytes, partsFrom, assembled}
-use Rattle.assembler_layout.proofs.Lengths.{Right, offsets-length, start-after, ends-grow, end-of-table, name-length, data-length, parts-length}
-
--- ---- a list p ++ r from the place n of b on
-module _ (b : List ℕ) (n : ℕ) (p r : List ℕ) (h : drop n b ≡ p ++ r) where
-  pub rest-at : (m : ℕ) → length p ≡ m → drop (n + m) b ≡ r
-  rest-at m e = sym (drop-drop m n b) ∙ rw h (drop-at p r m e)
-
-  pub part-at : (m : ℕ) → length p ≡ m → take m (drop n b) ≡ p
-  part-at m e = rw h (take-at p r m e)
-
-module _ (b : List ℕ) (n x : ℕ) (r : List ℕ) where
-  pub word-at : drop n b ≡ le32 x ++ r → x < 4294967296 → u32At b n ≡ x
-  word-at h l =
-      let e : u32At (drop n b) 0 ≡ u32At b n = u32-drop n b 0 ∙ rw add-zero in
-      sym e ∙ rw h (u32-le32 x r l)
-
-  pub half-at : drop n b ≡ le16 x ++ r → x < 65536 → u16At b n ≡ x
-  half-at h l =
-      let e : u16At (drop n b) 0 ≡ u16At b n = u16-drop n b 0 ∙ rw add-zero in
-      sym e ∙ rw h (u16-le16 x r l)
+use Rattle.assembler_layout.proofs.Lengths.{Right, start-after, ends-grow, end-of-table, name-length, data-length, parts-length}
 
 regroup : (a b c d e f o p q : List ℕ)
     → a ++ (b ++ (c ++ (d ++ (e ++ (f ++ (o ++ (p ++ q))))))) ≡ ((a ++ (b ++ (c ++ (d ++ (e ++ f))))) ++ (o ++ p)) ++ q
@@ -58,15 +40,8 @@ module _ (g : Parts) where
   unfolding partsFrom
   parts-more k = let e : 0 + k ≡ k = omega arith in parts-split 0 k 1 ∙ rw (e, append-nil)
 
-  offsets-grow : (k j : ℕ) → offsetsFrom g k (suc j) ≡ offsetsFrom g k j ++ le32 (startOf g (k + j))
-  unfolding offsetsFrom
-  offsets-grow k zero = let e : k + 0 ≡ k = omega arith in rw (e, append-nil)
-  offsets-grow k (suc j) =
-      let e : k + suc j ≡ suc k + j = omega arith in
-      rw (e, append-assoc) (ap (λ (l : List ℕ). le32 (startOf g k) ++ l) (offsets-grow (suc k) j))
-
   pub offsets-more : (k : ℕ) → offsetsFrom g 0 (k + 1) ≡ offsetsFrom g 0 k ++ le32 (startOf g k)
-  offsets-more k = let e : 0 + k ≡ k = omega arith in rw (add-one k, offsets-grow 0 k, e)
+  offsets-more k = let e : 0 + k ≡ k = omega arith in rw (add-one k, offsets-grow (startOf g) 0 k, e)
 
   pub assembled-split : (k m : ℕ) → k + m ≡ partCount g → assembled g ≡ frontTo k ++ partsFrom g k m
   unfolding assembled frontTo headerOf
@@ -193,23 +168,9 @@ module _ (g : Parts) where
     pub count-read : partCount g < 4294967296 → u32At (assembled g) 28 ≡ partCount g
     count-read = word-at (assembled g) 28 (partCount g) _ at-count
 
-    offset-in : (k m j : ℕ) (rest : List ℕ) → j < m → startOf g (k + j) < 4294967296 → u32At (offsetsFrom g k m ++ rest) (4 * j) ≡ startOf g (k + j)
-    unfolding offsetsFrom
-    offset-in k zero j rest h l = absurd (omega arith)
-    offset-in k (suc m) zero rest h l =
-        let e : k + 0 ≡ k = omega arith in
-        rw e (rw append-assoc (u32-le32 (startOf g k) _ (rw e at l)))
-    offset-in k (suc m) (suc j) rest h l =
-        let e : k + suc j ≡ suc k + j = omega arith in
-        let f : 4 * suc j ≡ 4 + 4 * j = omega arith in
-        let d = drop-at (le32 (startOf g k)) (offsetsFrom g (suc k) m ++ rest) 4 (le32-length (startOf g k)) in
-        let s = offset-in (suc k) m j rest (omega arith) (rw e at l) in
-        let t = u32-drop 4 (le32 (startOf g k) ++ (offsetsFrom g (suc k) m ++ rest)) (4 * j) in
-        rw (e, f, append-assoc) (sym t ∙ rw d s)
-
     pub offset-read : (k : ℕ) → k < partCount g → startOf g k < 4294967296 → u32At (assembled g) (32 + 4 * k) ≡ startOf g k
     unfolding offsets-parts
     offset-read k h l =
         let e : 0 + k ≡ k = omega arith in
-        let s = rw e at (offset-in 0 (partCount g) k (partsFrom g 0 (partCount g)) h (rw e l)) in
+        let s = rw e at (offset-in (startOf g) 0 (partCount g) k (partsFrom g 0 (partCount g)) h (rw e l)) in
         sym (u32-drop 32 (assembled g) (4 * k)) ∙ rw at-offsets s

@@ -10,9 +10,10 @@ use lib.Seq.{length-take-le}
 use Rattle.wire.specs.Number.{le16, le32, placed}
 use Rattle.wire.proofs.Numbers.{le16-length, le32-length}
 use Rattle.wire.proofs.Stretches.{Written, lent-length, written-more, written-number, all-written}
-use Rattle.part_table_layout.specs.Table.{magic}
+use Rattle.part_table_layout.specs.Table.{magic, offsetBytes}
+use Rattle.part_table_layout.proofs.Laid.{offsets-length}
 use Rattle.assembler_layout.specs.Assembled.{Parts, partCount, sizeGiven, roundUp, endBefore, startOf, fileLength, nameBytes, dataGiven, offsetsFrom, partBytes, partsFrom, total, assembled}
-use Rattle.assembler_layout.proofs.Lengths.{Right, right-told, total-more, total-front, round-up, end-of, ends-grow, end-of-table, offsets-length, part-length}
+use Rattle.assembler_layout.proofs.Lengths.{Right, right-told, total-more, total-front, round-up, end-of, ends-grow, end-of-table, part-length}
 use Rattle.assembler_layout.proofs.Places.{offsets-more, parts-more}
 use Rattle.assembler_layout.specs.Answer.{Passed, sized, headerBytes, frontBytes}
 use Rattle.assembler_layout.proofs.Checks.{ends-agree}
@@ -139,7 +140,7 @@ no-parts g o n h =
 
 -- ---- header, offsets and parts are the container
 offsets-agree : (g h : Parts) → g .sizes ≡ h .sizes → (k m : ℕ) → offsetsFrom g k m ≡ offsetsFrom h k m
-unfolding offsetsFrom
+unfolding offsetBytes
 offsets-agree g h e k zero = refl
 offsets-agree g h e k (suc m) = rw (ends-agree g h e k, offsets-agree g h e (suc k) m)
 

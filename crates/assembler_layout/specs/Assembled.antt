@@ -7,7 +7,7 @@ use lib.ListN.{length, getD, take, drop, replicate}
 use Rattle.wire.specs.Number.{u32At, le16, le32}
 use Rattle.wire.specs.Verdict.{_then_, check, each}
 use Rattle.wire.specs.declared.Verdict.{Verdict}
-use Rattle.part_table_layout.specs.Table.{magic, nameJudged}
+use Rattle.part_table_layout.specs.Table.{magic, offsetBytes, nameJudged}
 
 -- "names, sizes, data end to end, and a digest"; the number of parts is the number of sizes
 pub record Parts : Type 0 where
@@ -53,9 +53,8 @@ abbrev pub fileLength : Parts → ℕ
 fileLength g = endBefore g (partCount g)
 
 -- the offsets of the m parts from part k on
-unfoldable pub offsetsFrom : Parts → ℕ → ℕ → List ℕ
-offsetsFrom g k zero = []
-offsetsFrom g k (suc m) = le32 (startOf g k) ++ offsetsFrom g (suc k) m
+abbrev pub offsetsFrom : Parts → ℕ → ℕ → List ℕ
+offsetsFrom g k m = offsetBytes (startOf g) k m
 
 -- part k with what fills the space before it: "filler is zero and isn't counted in the part's size, but is in the file"
 unfoldable pub partBytes : Parts → ℕ → List ℕ

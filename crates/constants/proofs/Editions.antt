@@ -30,6 +30,14 @@ size-step (suc (suc (suc (suc e)))) = omega arith
 pub size-mono : (e k : ℕ) → e ≤ k → sizeOf e ≤ sizeOf k
 size-mono e k h = le-ind (λ (m : ℕ). sizeOf e ≤ sizeOf m) (le-refl (sizeOf e)) (λ m l i. le-trans i (size-step m)) k h
 
+-- from edition 3 on there is one size
+pub size-last : (e : ℕ) → 3 ≤ e → sizeOf e ≡ 52
+size-last zero h = absurd (omega arith)
+size-last (suc zero) h = absurd (omega arith)
+size-last (suc (suc zero)) h = absurd (omega arith)
+size-last (suc (suc (suc zero))) h = refl
+size-last (suc (suc (suc (suc e)))) h = refl
+
 -- the file's edition is at most 3, and its size is at most that of a record that edition 0 fits
 pub edition-few : (s : ℕ) → fileEdition s ≤ 3
 edition-few s = go (leb 52 s) (leb 48 s) (leb 36 s)

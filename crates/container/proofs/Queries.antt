@@ -29,12 +29,20 @@ use Rattle.psv0_layout.proofs.Spans.{refused-shows, no-points}
 use Rattle.psv0_layout.specs.Handed as handed
 use Rattle.psv0_layout.specs.Judged.{opened}
 use Rattle.psv0_layout.specs.Layout.{editionRead}
-use Rattle.psv0_layout.specs.Shown.{Value, unset, Question, queried, answered}
+use Rattle.psv0_layout.specs.Shown.{Value, unset, Question, queried, answered, shown, beside}
 use Rattle.psv0_layout.proofs.Positions.{part-part}
 use Rattle.container_layout.specs.Container.{psv0, isThere, startFound, sizeFound, dataFound, psvOf, beforePsv, containerJudged, containerAnswered, containerPart, containerOccurrence}
-use Rattle.container_layout.proofs.Containers.{before-told, opens-alone, shows-alone, refuses-before, shows-nothing}
-use Rattle.container.specs.Opened.{psvPartOf, refusedOpening, openingIf, movedSpan, partBeside, containerOpeningOf}
+use Rattle.container_layout.proofs.Containers.{data-opens, before-told, opens-alone, shows-alone, refuses-before, shows-nothing}
+use Rattle.container_layout.specs.Placed.{containerPlaces}
+use Rattle.container_layout.proofs.Placed.{psv-there, info-fresh}
+use Rattle.places_layout.specs.Answers.{infoBy}
+use Rattle.places_layout.specs.declared.SectionPlaces.{SectionPlaces}
+use Rattle.places_layout.specs.Placed.{placesAt, movedBy, placesBeside, openedPlaces}
+use Rattle.places_layout.specs.declared.PlacesAnswer.{PlacesAnswer}
+use Rattle.places_layout.proofs.Moving.{moved-places}
+use Rattle.container.specs.Opened.{refusedPlaces, placedIf, containerPlacesOf, psvPartOf, refusedOpening, openingIf, movedSpan, partBeside, containerOpeningOf}
 use Rattle.container.specs.declared.ContainerOpening.{ContainerOpening}
+use Rattle.container.specs.declared.ContainerPlaces.{ContainerPlaces}
 use Rattle.container.specs.declared.PsvPart.{PsvPart}
 
 pub end-less : (s l : ℕ) → s + l - s ≡ l
@@ -139,6 +147,40 @@ opening-is k b {p} hp a {d} e {o} ho =
     let v : opened k (psvOf b) ≡ containerJudged k b = sym (opens-alone k b (before-is k b hp a)) in
     rw (ho, e, n, v) (beside-if (containerJudged k b) (countOf b) _ _)
 
+-- ---- an opening with its places
+module _ (k : ℕ) (b : List ℕ) {p : PsvPart} (hp : p ≡ psvPartOf k b) where
+  pub no-places : {n q : ℕ} → p .verdict ≡ Refused n q → refusedPlaces n q ≡ containerPlacesOf k b
+  unfolding containerPlacesOf
+  no-places h = let e = refuses-before k b (before-is k b hp h) in rw e
+
+  module _ (a : p .verdict ≡ Accepted) where
+    all-short : length b ≤ 16777216
+    all-short = accepted-told b (before-told k b (before-is k b hp a) .table) .header .short
+
+    pub psv0-short : p .start ≤ 16777216
+    psv0-short = omega (arith, order k b hp a, inside k b hp a, all-short)
+
+    start-is : p .start ≡ startFound b (find b psv0)
+    start-is = ap (λ (q : PsvPart). q .start) (found k b hp a)
+
+    pub places-are : {d : List ℕ} → d ≡ psvOf b → {o : PlacesAnswer} → o ≡ openedPlaces k d
+        → placedIf (o .verdict) (p .parts) (o .«file_edition») (movedBy (p .start) (o .places)) ≡ containerPlacesOf k b
+    unfolding openedPlaces containerPlacesOf containerPlaces
+    places-are e ho =
+        let n = count-is k b hp a in
+        let v : opened k (psvOf b) ≡ containerJudged k b = sym (opens-alone k b (before-is k b hp a)) in
+        rw (ho, e, n, start-is, v) (go (containerJudged k b) refl)
+      where
+        go : (w : Verdict) → containerJudged k b ≡ w
+            → placedIf w (countOf b) (numberBeside w (fileEdition (u32At (psvOf b) 0)))
+            (movedBy (startFound b (find b psv0)) (placesBeside w (placesAt 0 (editionRead k (psvOf b)) (psvOf b))))
+            ≡ placedIf w (countOf b) (fileEdition (u32At (psvOf b) 0)) (placesAt (startFound b (find b psv0)) (editionRead k (psvOf b)) (psvOf b))
+        go Accepted q =
+            let room : startFound b (find b psv0) + length (psvOf b) ≤ 16777216 = omega (arith, psv-there k b q .room, all-short) in
+            ap (λ x. record { verdict = Accepted; parts = countOf b; «file_edition» = fileEdition (u32At (psvOf b) 0); places = x })
+            (moved-places k (startFound b (find b psv0)) (psvOf b) (data-opens k b q) room)
+        go (Refused n m) q = refl
+
 -- ---- a stretch of the PSV0 data is one of the container
 module _ (k : ℕ) (b : List ℕ) {p : PsvPart} (hp : p ≡ psvPartOf k b) (a : p .verdict ≡ Accepted) {d : List ℕ}
     (hd : d ≡ take (p .end - p .start) (drop (p .start) b)) where
@@ -231,3 +273,24 @@ module _ (k : ℕ) (b : List ℕ) {o : ContainerOpening} (e : o ≡ containerOpe
     pub opening-edition : o .«file_edition» ≡ fileEdition (u32At (psvOf b) 0)
     unfolding containerOpeningOf
     opening-edition = let a = sym opening-verdict ∙ h in rw (e, a)
+
+-- ---- what an opening with places shows
+placed-verdict-if : (v : Verdict) (n f : ℕ) (p : SectionPlaces) → placedIf v n f p .verdict ≡ v
+placed-verdict-if Accepted n f p = refl
+placed-verdict-if (Refused m q) n f p = refl
+
+module _ (k : ℕ) (b : List ℕ) {o : ContainerPlaces} (e : o ≡ containerPlacesOf k b) where
+  placed-verdict : o .verdict ≡ containerJudged k b
+  unfolding containerPlacesOf
+  placed-verdict = ap (λ (q : ContainerPlaces). q .verdict) e ∙ placed-verdict-if (containerJudged k b) _ _ _
+
+  pub placed-info : o .verdict ≡ Accepted → infoBy (o .places) b ≡ infoAnswerOf (containerJudged k b) (containerAnswered k b)
+  unfolding containerPlacesOf
+  placed-info a =
+      let h = sym placed-verdict ∙ a in
+      let p : o .places ≡ containerPlaces k b = ap (λ (q : ContainerPlaces). q .places) e ∙ rw h in
+      rw p (info-fresh k b h)
+
+  pub no-placed-info : {n p : ℕ} → o .verdict ≡ Refused n p → refusedInfo n p ≡ infoAnswerOf (containerJudged k b) (containerAnswered k b)
+  unfolding infoAnswerOf containerAnswered
+  no-placed-info a = let h = sym placed-verdict ∙ a in λ i. infoAnswerOf (sym h i) (λ q. beside (sym h i) (shown k (psvOf b) q))

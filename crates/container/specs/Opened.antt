@@ -13,7 +13,11 @@ use Rattle.psv0_layout.specs.declared.Points.{Points}
 use Rattle.psv0_layout.specs.declared.Span.{Span}
 use Rattle.psv0_layout.specs.Layout.{editionRead}
 use Rattle.container_layout.specs.Container.{psv0, startFound, sizeFound, psvOf, beforePsv, containerJudged}
+use Rattle.container_layout.specs.Placed.{containerPlaces}
+use Rattle.places_layout.specs.Placed.{noPlaces}
+use Rattle.places_layout.specs.declared.SectionPlaces.{SectionPlaces}
 use Rattle.container.specs.declared.ContainerOpening.{ContainerOpening}
+use Rattle.container.specs.declared.ContainerPlaces.{ContainerPlaces}
 use Rattle.container.specs.declared.PsvPart.{PsvPart}
 
 -- the PSV0 part, under what is checked before it: the number of parts, and where its data start and end
@@ -47,3 +51,15 @@ partBeside (Refused n q) p = refusedPart (Refused n q)
 -- an opening at edition k: its verdict, the number of parts, the file's edition and the edition read; zeros beside a refusal
 unfoldable pub containerOpeningOf : ℕ → List ℕ → ContainerOpening
 containerOpeningOf k b = openingIf (containerJudged k b) (countOf b) (fileEdition (u32At (psvOf b) 0)) (editionRead k (psvOf b))
+
+-- an opening with its places under a verdict; zeros beside a refusal
+abbrev pub refusedPlaces : ℕ → ℕ → ContainerPlaces
+refusedPlaces n p = record { verdict = Refused n p; parts = 0; «file_edition» = 0; places = noPlaces }
+
+abbrev pub placedIf : Verdict → ℕ → ℕ → SectionPlaces → ContainerPlaces
+placedIf Accepted parts f p = record { verdict = Accepted; parts = parts; «file_edition» = f; places = p }
+placedIf (Refused n q) parts f p = refusedPlaces n q
+
+-- an opening at edition k: its verdict, the number of parts, the file's edition and the places
+unfoldable pub containerPlacesOf : ℕ → List ℕ → ContainerPlaces
+containerPlacesOf k b = placedIf (containerJudged k b) (countOf b) (fileEdition (u32At (psvOf b) 0)) (containerPlaces k b)

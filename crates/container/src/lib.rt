@@ -2,6 +2,8 @@
 // A query gives what opening gives, 25, 1 to 9, 10, 11 and 12 to 24, then 26. Beside a refusal nothing of the file is shown.
 use part_table_layout::Part;
 use part_table_layout::ThreeParts;
+use places_layout::PlacesAnswer;
+use places_layout::SectionPlaces;
 use psv0_layout::ElementAnswer;
 use psv0_layout::InfoAnswer;
 use psv0_layout::LengthsAnswer;
@@ -22,7 +24,8 @@ ghost use Rattle.psv0_layout.specs.Handed.{handed};
 ghost use Rattle.psv0_layout.specs.Layout.{editionRead, defaultEdition};
 ghost use Rattle.psv0_layout.specs.Shown.{queried};
 ghost use Rattle.container_layout.specs.Container.{dxil, psv0, psvOf, containerJudged, containerAnswered, containerPart, containerOccurrence, partDataOf, occurrenceDataOf};
-ghost use Rattle.container.specs.Opened.{psvPartOf, refusedOpening, openingIf, movedSpan, partBeside, containerOpeningOf};
+ghost use Rattle.places_layout.specs.Placed.{movedBy};
+ghost use Rattle.container.specs.Opened.{psvPartOf, refusedOpening, openingIf, refusedPlaces, placedIf, containerPlacesOf, movedSpan, partBeside, containerOpeningOf};
 
 // The verdict of an opening, the number of parts, the file's edition and the edition read. A refusal has zeros.
 pub struct ContainerOpening {
@@ -30,6 +33,14 @@ pub struct ContainerOpening {
     pub parts: usize,
     pub file_edition: usize,
     pub edition_read: usize,
+}
+
+// The same with the places of the PSV0 sections, as offsets in the container, for queries by them; the edition read is theirs. A refusal has zeros.
+pub struct ContainerPlaces {
+    pub verdict: Verdict,
+    pub parts: usize,
+    pub file_edition: usize,
+    pub places: SectionPlaces,
 }
 
 // The verdict of what is checked before the PSV0 data, the number of parts, and where the PSV0 data start and end.
@@ -144,6 +155,49 @@ pub fn open_default(b: &[u8]) -> ContainerOpening
     open(b, 3)
 }
 
+fn refused_places(n: u8, place: usize) -> ContainerPlaces
+    ensures { λ r. ⌜ r ≡ refusedPlaces n place ⌝ }
+{
+    ContainerPlaces {
+        verdict: Verdict::Refused(n, place),
+        parts: 0,
+        file_edition: 0,
+        places: places::none(),
+    }
+}
+
+// An opening of PSV0 data that start at a place as that of their container.
+fn placed(o: PlacesAnswer, parts: usize, start: usize) -> ContainerPlaces
+    requires { ⌜ start ≤ 16777216 ⌝ }
+    ensures { λ r. ⌜ r ≡ placedIf (o .verdict) parts (o .«file_edition») (movedBy start (o .places)) ⌝ }
+{
+    let v = o.verdict;
+    let here = o.places;
+    match v {
+        Verdict::Refused(n, place) => refused_places(n, place),
+        Verdict::Accepted => ContainerPlaces {
+            verdict: Verdict::Accepted,
+            parts,
+            file_edition: o.file_edition,
+            places: places::moved(here, start as u32),
+        },
+    }
+}
+
+// Opens a container at an edition, and hands back the places of its PSV0 sections.
+pub fn open_places(b: &[u8], edition: usize) -> ContainerPlaces
+    ensures { λ r. ⌜ r ≡ containerPlacesOf edition (now (b .entry)) ⌝ }
+{
+    let p = find_psv0(b, edition);
+    let start = p.start;
+    let end = p.end;
+    let v = p.verdict;
+    if let Verdict::Refused(n, place) = v {
+        return refused_places(n, place);
+    }
+    placed(psv0::open_places(&b[start..end], edition), p.parts, start)
+}
+
 // The fields of the runtime record. The accepted answer has a name of its own, so that a refusal is written in place and not copied.
 pub fn runtime_info(b: &[u8], edition: usize) -> InfoAnswer
     ensures { λ r. ⌜ r ≡ infoAnswerOf (containerJudged edition (now (b .entry))) (containerAnswered edition (now (b .entry))) ⌝ }
@@ -153,7 +207,7 @@ pub fn runtime_info(b: &[u8], edition: usize) -> InfoAnswer
     let end = p.end;
     let v = p.verdict;
     if let Verdict::Refused(n, place) = v {
-        return psv0::refused_info(n, place);
+        return places::refused_info(n, place);
     }
     let shown = psv0::runtime_info(&b[start..end], edition);
     shown
@@ -168,7 +222,7 @@ pub fn resource(b: &[u8], edition: usize, i: usize) -> ResourceAnswer
     let end = p.end;
     let v = p.verdict;
     if let Verdict::Refused(n, place) = v {
-        return psv0::refused_resource(n, place);
+        return places::refused_resource(n, place);
     }
     psv0::resource(&b[start..end], edition, i)
 }
@@ -182,7 +236,7 @@ pub fn element(b: &[u8], edition: usize, i: usize) -> ElementAnswer
     let end = p.end;
     let v = p.verdict;
     if let Verdict::Refused(n, place) = v {
-        return psv0::refused_element(n, place);
+        return places::refused_element(n, place);
     }
     psv0::element(&b[start..end], edition, i)
 }
@@ -196,7 +250,7 @@ pub fn lengths(b: &[u8], edition: usize) -> LengthsAnswer
     let end = p.end;
     let v = p.verdict;
     if let Verdict::Refused(n, place) = v {
-        return psv0::refused_lengths(n, place);
+        return places::refused_lengths(n, place);
     }
     psv0::lengths(&b[start..end], edition)
 }
@@ -209,7 +263,7 @@ fn moved(s: Span, by: usize) -> Span
     let v = s.verdict;
     let points = s.points;
     match v {
-        Verdict::Refused(n, place) => psv0::refused_span(n, place),
+        Verdict::Refused(n, place) => places::refused_span(n, place),
         Verdict::Accepted => Span {
             verdict: Verdict::Accepted,
             start: by + s.start,
@@ -228,7 +282,7 @@ pub fn view_span(b: &[u8], edition: usize, view: View) -> Span
     let end = p.end;
     let v = p.verdict;
     if let Verdict::Refused(n, place) = v {
-        return psv0::refused_span(n, place);
+        return places::refused_span(n, place);
     }
     moved(psv0::view_span(&b[start..end], edition, view), start)
 }
@@ -242,7 +296,7 @@ pub fn section_span(b: &[u8], edition: usize, section: Section) -> Span
     let end = p.end;
     let v = p.verdict;
     if let Verdict::Refused(n, place) = v {
-        return psv0::refused_span(n, place);
+        return places::refused_span(n, place);
     }
     moved(psv0::section_span(&b[start..end], edition, section), start)
 }

@@ -87,6 +87,10 @@ module _ (k : ℕ) (b : List ℕ) where
       let s = le-leb _ _ (psv-short b (p .table)) in
       simp (h, p .edition, s)
 
+  -- the PSV0 data of a container that opens are accepted alone
+  pub data-opens : containerJudged k b ≡ Accepted → opened k (psvOf b) ≡ Accepted
+  data-opens h = sym (opens-alone (opened-told k b h .0)) ∙ h
+
   pub shows-alone : beforePsv k b ≡ Accepted → (q : Question) → containerAnswered k b q ≡ answered k (psvOf b) q
   unfolding containerAnswered answered
   shows-alone h q = rw (opens-alone h)
@@ -99,8 +103,15 @@ module _ (k : ℕ) (b : List ℕ) where
   unfolding containerAnswered
   shows-nothing h q = rw (refuses-before h)
 
--- ---- what stays the same in a widening
-module _ (k : ℕ) (b b′ : List ℕ) (w : WiderContainer k b b′) where
+-- ---- what stays the same where no data differ but those of PSV0
+-- b′ passes 1 to 9, with the parts of b in order, "equal but for PSV0"
+pub record SameParts (b b′ : List ℕ) : Type 0 where
+  pub passes : tableJudged b′ ≡ Accepted
+  pub counts : countOf b′ ≡ countOf b
+  pub names : (i : ℕ) → i < countOf b → nameAt b′ i ≡ nameAt b i
+  pub others : (i : ℕ) → i < countOf b → (nameAt b i ≡ psv0 → ⊥) → dataAt b′ i ≡ dataAt b i
+
+module _ (b b′ : List ℕ) (w : SameParts b b′) where
   pub occurrence-same : (x o : ℕ) → findOccurrence b′ x o ≡ findOccurrence b x o
   unfolding findOccurrence
   occurrence-same x o = rw (w .counts) (occurrence-agree (nameAt b′) (nameAt b) (countOf b) x o (w .names))
@@ -109,7 +120,7 @@ module _ (k : ℕ) (b b′ : List ℕ) (w : WiderContainer k b b′) where
   find-same x = sym (first-occurrence b′ x) ∙ occurrence-same x 0 ∙ first-occurrence b x
 
   -- the DXIL part is there, and as long as it was
-  pub program-same : tableJudged b ≡ Accepted → sizeFound b′ (find b′ dxil) ≡ sizeFound b (find b dxil)
+  program-same : tableJudged b ≡ Accepted → sizeFound b′ (find b′ dxil) ≡ sizeFound b (find b dxil)
   unfolding u32At
   program-same t = rw (find-same dxil) (go (find b dxil) refl)
     where
@@ -122,12 +133,24 @@ module _ (k : ℕ) (b b′ : List ℕ) (w : WiderContainer k b b′) where
           let other : nameAt b i ≡ psv0 → ⊥ = λ q. let z : dxil ≡ psv0 = sym (n .named) ∙ q in omega arith in
           sym (data-length b′ (w .passes) i l′) ∙ ap length (w .others i l other) ∙ data-length b t i l
 
-  pub validation-same : isThere (find b′ psv0) ≡ isThere (find b psv0)
-  validation-same = rw (find-same psv0)
+  -- what is checked before the PSV0 data passes again, at any edition that a reader has
+  pub before-again : (k j : ℕ) → leb j 3 ≡ true → Before k b → Before j b′
+  before-again k j h p =
+      record {
+        edition = h;
+        table = w .passes;
+        program = rw (program-same (p .table)) (p .program);
+        validation = rw (find-same psv0) (p .validation);
+      }
 
+-- ---- a widening
+pub wider-parts : (k : ℕ) (b b′ : List ℕ) → WiderContainer k b b′ → SameParts b b′
+wider-parts k b b′ w = record { passes = w .passes; counts = w .counts; names = w .names; others = w .others }
+
+module _ (k : ℕ) (b b′ : List ℕ) (w : WiderContainer k b b′) where
   pub psv-wider : isThere (find b psv0) ≡ true → Widening k (psvOf b) (psvOf b′)
   unfolding psvOf
-  psv-wider t = rw (find-same psv0) (go (find b psv0) refl t)
+  psv-wider t = rw (find-same b b′ (wider-parts k b b′ w) psv0) (go (find b psv0) refl t)
     where
       go : (f : Found) → find b psv0 ≡ f → isThere f ≡ true → Widening k (dataFound b f) (dataFound b′ f)
       go Nothing e t = absurd (true≢false (sym t))

@@ -14,7 +14,7 @@ use Rattle.psv0_layout.proofs.EditionOrder.{judged-⊑, read-newer, shown-newer
 use Rattle.psv0_layout.proofs.WiderReading.{KeptJudged, widened-judged}
 use Rattle.container_layout.specs.Container.{psvOf, beforePsv, containerJudged, containerAnswered}
 use Rattle.container_layout.specs.Widened.{WiderContainer}
-use Rattle.container_layout.proofs.Containers.{psv-short, Before, before-told, before-is, opened-told, opened-is, program-same, validation-same, psv-wider}
+use Rattle.container_layout.proofs.Containers.{psv-short, Before, before-told, before-is, opened-told, opened-is, before-again, wider-parts, psv-wider}
 
 -- "Whatever the bytes, take any two reader editions from 0 to 3. If the older refuses to open the bytes, the newer refuses with the
 -- same number and place. If the newer opens them, so does the older, and every value the older shows set, the newer shows set and the
@@ -60,12 +60,6 @@ widening-kept k b b′ o long w =
     let kept : KeptJudged k (psvOf b) (psvOf b′) =
     widened-judged k (psvOf b) (leb-true _ _ (p .edition)) (psv-short b (p .table)) long (psvOf b′) j
     (psv-wider k b b′ w (p .validation)) (psv-short b′ (w .passes)) in
-    let f′ : Before k b′ =
-    record {
-      edition = p .edition;
-      table = w .passes;
-      program = rw (program-same k b b′ w (p .table)) (p .program);
-      validation = rw (validation-same k b b′ w) (p .validation);
-    } in
+    let f′ : Before k b′ = before-again b b′ (wider-parts k b b′ w) k k (p .edition) p in
     let o′ : containerJudged k b′ ≡ Accepted = opened-is k b′ (before-is k b′ f′) (kept .judged) in
     record { opens = o′; shows = λ q. rw (o′, o) (kept .shows q) }

@@ -23,7 +23,7 @@ use Rattle.psv0_layout.proofs.Positions.{part-part}
 use Rattle.container_layout.specs.Container.{psv0, isThere, startFound, dataFound, psvOf, containerJudged, containerPart, containerOccurrence, occurrenceDataOf, partDataOf}
 use Rattle.container_layout.specs.Report.{dataNamed, reported}
 use Rattle.container_layout.specs.Widened.{WiderContainer}
-use Rattle.container_layout.proofs.Containers.{find-same, occurrence-same}
+use Rattle.container_layout.proofs.Containers.{find-same, occurrence-same, wider-parts}
 use Rattle.container_layout.proofs.Demand3.{editions-agree, widening-kept}
 use Rattle.container_layout.proofs.Parts.{opens, shown-part, part-fits, part-data}
 
@@ -65,7 +65,7 @@ module _ (judge : List ℕ → Verdict) (x : ℕ) where
 module _ (k : ℕ) (b b′ : List ℕ) (w : WiderContainer k b b′) (x : ℕ) (other : x ≡ psv0 → ⊥) where
   -- its data, with any occurrence
   pub occurrence-kept : (o : ℕ) → dataFound b′ (findOccurrence b′ x o) ≡ dataFound b (findOccurrence b x o)
-  occurrence-kept o = rw (occurrence-same k b b′ w x o) (go (findOccurrence b x o) refl)
+  occurrence-kept o = rw (occurrence-same b b′ (wider-parts k b b′ w) x o) (go (findOccurrence b x o) refl)
     where
       go : (f : Found) → findOccurrence b x o ≡ f → dataFound b′ f ≡ dataFound b f
       go Nothing e = refl
@@ -79,7 +79,7 @@ module _ (k : ℕ) (b b′ : List ℕ) (w : WiderContainer k b b′) (x : ℕ) (
       → reported judge x k b′ ≡ reported judge x k b
   report-kept judge o long =
       reported-open judge x k b′ (widening-kept k b b′ o long w .opens)
-      ∙ rw (find-same k b b′ w x, data-kept) (sym (reported-open judge x k b o))
+      ∙ rw (find-same b b′ (wider-parts k b b′ w) x, data-kept) (sym (reported-open judge x k b o))
 
 -- ---- the steps of the code: r is the part that was asked for
 module _ (k : ℕ) (b : List ℕ) (x : ℕ) {r : Part} (hr : r ≡ containerPart k b x) (h : r .verdict ≡ Accepted) where

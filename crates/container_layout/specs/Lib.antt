@@ -1,3 +1,4 @@
 pub mod Container
+pub mod Placed
 pub mod Report
 pub mod Widened

@@ -26,7 +26,7 @@ use Rattle.psv0_layout.proofs.Opened.{head-fits, head-accepted, later-size}
 use Rattle.psv0_layout.proofs.Positions.{part-byte, part-u32, runtime-byte}
 use Rattle.container_layout.specs.Container.{psv0, isThere, psvOf, containerJudged, containerAnswered, containerPart}
 use Rattle.container_layout.specs.Report.{dataNamed, reported}
-use Rattle.container_layout.proofs.Containers.{before-told, opened-told, opens-alone}
+use Rattle.container_layout.proofs.Containers.{before-told, opened-told, data-opens}
 use Rattle.container_layout.proofs.Parts.{opens, part-short}
 use Rattle.container_layout.proofs.Reports.{no-report, data-there}
 use Rattle.figures_layout.specs.Kinds.{answerOf}
@@ -51,9 +51,6 @@ module _ (k : ℕ) (b : List ℕ) {r : Part} (hr : r ≡ containerPart k b psv0)
     judged : containerJudged k b ≡ Accepted
     judged = opens k b psv0 0 hr h
 
-    data-opens : opened k (psvOf b) ≡ Accepted
-    data-opens = sym (opens-alone k b (opened-told k b judged .0)) ∙ judged
-
     data-is : take (r .size) (drop (r .offset + 8) b) ≡ psvOf b
     unfolding psvOf
     data-is =
@@ -63,14 +60,14 @@ module _ (k : ℕ) (b : List ℕ) {r : Part} (hr : r ≡ containerPart k b psv0)
     -- the data are as long as section 1 says at least
     size-most : 4 + u32At (psvOf b) 0 ≤ r .size
     size-most =
-        let f = head-fits (psvOf b) (head-accepted k (psvOf b) data-opens) .runtime in
+        let f = head-fits (psvOf b) (head-accepted k (psvOf b) (data-opens k b judged)) .runtime in
         let e = ap length data-is in
         omega (arith, simp length-take at e)
 
     pub place-short : r .offset + 36 ≤ 16777216
     place-short =
         let s = part-short k b psv0 0 hr h in
-        let l = head-fits (psvOf b) (head-accepted k (psvOf b) data-opens) .least in
+        let l = head-fits (psvOf b) (head-accepted k (psvOf b) (data-opens k b judged)) .least in
         let m = size-most in
         omega arith
 
@@ -83,7 +80,7 @@ module _ (k : ℕ) (b : List ℕ) {r : Part} (hr : r ≡ containerPart k b psv0)
 
     stage-is : 1 ≤ editionRead k (psvOf b) → getD b (r .offset + 36) 0 ≡ stage (seen 1 (sections (psvOf b)) .runtime)
     stage-is l =
-        let s = later-size k (psvOf b) data-opens l in
+        let s = later-size k (psvOf b) (data-opens k b judged) l in
         let m = size-most in
         let z : r .offset + 8 + 28 ≡ r .offset + 36 = omega arith in
         let e : getD (take (r .size) (drop (r .offset + 8) b)) 28 0 ≡ getD b (r .offset + 8 + 28) 0 = part-byte b (r .offset + 8) (r .size) 28 (omega arith) in

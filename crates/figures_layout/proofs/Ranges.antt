@@ -24,7 +24,7 @@ use Rattle.psv0_layout.specs.Shown.{number, setIf, value, shownAt, beside}
 use Rattle.psv0_layout.specs.declared.Field.the-variants.{Set}
 use Rattle.psv0_layout.proofs.Opened.{fields-accepted}
 use Rattle.container_layout.specs.Container.{psvOf, beforePsv, containerJudged, containerAnswered}
-use Rattle.container_layout.proofs.Containers.{before-told, opened-told, opens-alone}
+use Rattle.container_layout.proofs.Containers.{before-told, opened-told, data-opens}
 use Rattle.container_layout.proofs.Numbers.{opening-numbers}
 use Rattle.figures_layout.specs.Kinds.{answerOf, acceptedLength}
 
@@ -56,12 +56,9 @@ module _ (k : ℕ) (b : List ℕ) where
 
   -- the stage that is shown is at most 15
   module _ (e : containerJudged k b ≡ Accepted) (h : 1 ≤ editionRead k (psvOf b)) where
-    data-opens : opened k (psvOf b) ≡ Accepted
-    data-opens = sym (opens-alone k b (opened-told k b e .0)) ∙ e
-
     stage-most : stage (seen 1 (sections (psvOf b)) .runtime) ≤ 15
     unfolding fieldsJudged
-    stage-most = leb-true _ 15 (check-then _ 15 0 _ (fields-accepted k (psvOf b) data-opens h) .0)
+    stage-most = leb-true _ 15 (check-then _ 15 0 _ (fields-accepted k (psvOf b) (data-opens k b e) h) .0)
 
   pub stage-in : {s : ℕ} → answerOf k b .stage ≡ Set s → s ≤ 15
   unfolding answerOf containerAnswered shownAt value

@@ -2,6 +2,7 @@ pub mod Accepted
 pub mod Bytes
 pub mod Filled
 pub mod Judged
+pub mod Laid
 pub mod Lookups
 pub mod Occurrences
 pub mod Readings

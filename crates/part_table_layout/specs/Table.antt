@@ -1,10 +1,10 @@
 -- The part table of a container, as document 01 has it in "The container" and "Refusal numbers".
 use mathlib.Core.Bool.{Bool, _&&_, _||_, not}
-use mathlib.Core.List.{List, [], _∷_}
+use mathlib.Core.List.{List, [], _∷_, _++_}
 use Prim.Native.Nat.{ℕ, zero, suc, _+_, _-_, _*_}
 use lib.Dec.{ltb, leb, eqb}
 use lib.ListN.{length, take, drop, set, replicate}
-use Rattle.wire.specs.Number.{u16At, u32At}
+use Rattle.wire.specs.Number.{u16At, u32At, le32}
 use Rattle.wire.specs.Search.{first}
 use Rattle.wire.specs.Sum.{sumBelow, countBelow}
 use Rattle.wire.specs.Verdict.{_then_, check, each}
@@ -23,6 +23,11 @@ countOf b = u32At b 28
 -- offset 32: "offset of each part header", 4 bytes a part
 unfoldable pub offsetAt : List ℕ → ℕ → ℕ
 offsetAt b k = u32At b (32 + 4 * k)
+
+-- the offsets f k, f (k + 1) and so on of m parts, as bytes
+unfoldable pub offsetBytes : (ℕ → ℕ) → ℕ → ℕ → List ℕ
+offsetBytes f k zero = []
+offsetBytes f k (suc m) = le32 (f k) ++ offsetBytes f (suc k) m
 
 -- "A part header is a 4-byte name and a 4-byte data size; the data follow." A name is its four bytes as one number.
 unfoldable pub nameAt : List ℕ → ℕ → ℕ

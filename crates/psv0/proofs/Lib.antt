@@ -1,3 +1,3 @@
 pub mod Accepted
 pub mod Openings
-pub mod Queries
+pub mod Recording

@@ -18,6 +18,3 @@ unset-within false h x e = refl
 module _ (e er : ℕ) (x : Value) where
   pub set-from : e ≤ er → x ≡ setIf (leb e er) x
   set-from h = simp (le-leb e er h)
-
-  pub unset-before : er < e → unset ≡ setIf (leb e er) x
-  unset-before h = simp (lt-leb e er h)

@@ -2,6 +2,7 @@ pub mod Answered
 pub mod EditionOrder
 pub mod Editions
 pub mod Fields
+pub mod Inside
 pub mod Judgements
 pub mod Layouts
 pub mod Listed

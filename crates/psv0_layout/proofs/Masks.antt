@@ -133,7 +133,7 @@ module _ (r : List ℕ) (b : Bytes r) where
       go true = b .below 26
       go false = omega arith
 
-  mask-few : (m : ℕ) → getD (maskWords r) m 0 ≤ 32640
+  pub mask-few : (m : ℕ) → getD (maskWords r) m 0 ≤ 32640
   unfolding maskWords
   mask-few zero = view-few (eqb (usesViewId r) 1) _ (b .below 32)
   mask-few (suc zero) = view-few (eqb (usesViewId r) 1) _ (b .below 33)
@@ -149,7 +149,15 @@ module _ (r : List ℕ) (b : Bytes r) where
   mask-few (suc (suc (suc (suc (suc (suc (suc (suc (suc (suc (suc m))))))))))) = omega arith
 
 -- ---- sums
-sum-next : (l : List ℕ) (i : ℕ) → sum (take (suc i) l) ≡ sum (take i l) + getD l i 0
+-- a mask ends before the end of all
+pub sum-inside : (l : List ℕ) (m : ℕ) → sum (take m l) + getD l m 0 ≤ sum l
+unfolding sum
+sum-inside [] zero = omega arith
+sum-inside [] (suc m) = omega arith
+sum-inside (x ∷ l) zero = omega arith
+sum-inside (x ∷ l) (suc m) = omega (arith, sum-inside l m)
+
+pub sum-next : (l : List ℕ) (i : ℕ) → sum (take (suc i) l) ≡ sum (take i l) + getD l i 0
 unfolding sum
 sum-next [] zero = refl
 sum-next [] (suc i) = refl

@@ -5,7 +5,7 @@ use Prim.Native.Nat.{ℕ, _+_, _*_, _/_}
 use lib.Dec.{eqb}
 use lib.ListN.{getD}
 use Rattle.wire.specs.Choice.{choose}
-use Rattle.wire.specs.Number.{u32At}
+use Rattle.wire.specs.Number.{u16At, u32At}
 
 -- "Edition 1: 24 stage, 25 UsesViewID, 26 union, 28 to 30 input, output, patch/primitive element counts, 31 input vectors, 32 to 35
 -- output vectors of streams 0 to 3"
@@ -25,17 +25,42 @@ inputVectors r = getD r 31 0
 abbrev pub outputVectors : List ℕ → ℕ → ℕ
 outputVectors r i = getD r (32 + i) 0
 
--- "patch/primitive vectors (1 byte) when it is 3, 4 or 13"
+-- "At 26: MaxVertexCount (2 bytes) when the stage is 2; patch/primitive vectors (1 byte) when it is 3, 4 or 13, and at 27 the mesh
+-- topology when it is 13": the number that stands there, and the stages s that have it
+abbrev pub vertexCount : List ℕ → ℕ
+vertexCount r = u16At r 26
+
+abbrev pub vertexStage : ℕ → Bool
+vertexStage s = eqb s 2
+
+abbrev pub patchByte : List ℕ → ℕ
+patchByte r = getD r 26 0
+
+abbrev pub patchStage : ℕ → Bool
+patchStage s = eqb s 3 || eqb s 4 || eqb s 13
+
+abbrev pub topology : List ℕ → ℕ
+topology r = getD r 27 0
+
+abbrev pub meshStage : ℕ → Bool
+meshStage s = eqb s 13
+
+-- "Edition 2: 36, 40, 44 thread counts X, Y, Z." "Thread counts are set only for stages 5, 13, 14"
+abbrev pub threadCount : ℕ → List ℕ → ℕ
+threadCount i r = u32At r (36 + i * 4)
+
+abbrev pub threadStage : ℕ → Bool
+threadStage s = eqb s 5 || eqb s 13 || eqb s 14
+
 abbrev pub hasPatchVectors : List ℕ → Bool
-hasPatchVectors r = eqb (stage r) 3 || eqb (stage r) 4 || eqb (stage r) 13
+hasPatchVectors r = patchStage (stage r)
 
 -- "p = patch/primitive vectors (0 where unset)"
 abbrev pub patchVectors : List ℕ → ℕ
-patchVectors r = choose (hasPatchVectors r) (getD r 26 0) 0
+patchVectors r = choose (hasPatchVectors r) (patchByte r) 0
 
--- "Thread counts are set only for stages 5, 13, 14"
 abbrev pub hasThreads : List ℕ → Bool
-hasThreads r = eqb (stage r) 5 || eqb (stage r) 13 || eqb (stage r) 14
+hasThreads r = threadStage (stage r)
 
 -- "w(v) = (v + 7) div 8"
 abbrev pub words : ℕ → ℕ

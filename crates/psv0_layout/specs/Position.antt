@@ -21,6 +21,15 @@ unfoldable pub nextRecords : ℕ → List ℕ → ℕ → ℕ
 nextRecords zero d at = at
 nextRecords (suc n) d at = at + 4 + suc n * u32At d at
 
+-- of n records that start, with their size, at a position: the size, and the position of the first
+unfoldable pub strideAt : ℕ → List ℕ → ℕ → ℕ
+strideAt zero d at = 0
+strideAt (suc n) d at = u32At d at
+
+unfoldable pub firstRecord : ℕ → ℕ → ℕ
+firstRecord zero at = at
+firstRecord (suc n) at = at + 4
+
 -- where sections 2 to 6 start; section 1 starts at 0
 module _ (d : List ℕ) where
   unfoldable pub resourcesStart : ℕ

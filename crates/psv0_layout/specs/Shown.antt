@@ -6,11 +6,11 @@ use lib.Dec.{leb, ltb, eqb}
 use lib.ListN.{length, getD, take, drop}
 use Rattle.utf8_layout.specs.Sequence.{codePoints}
 use Rattle.wire.specs.Choice.{choose}
-use Rattle.wire.specs.Number.{u16At, u32At}
+use Rattle.wire.specs.Number.{u32At}
 use Rattle.wire.specs.Verdict.{_then_, check}
 use Rattle.wire.specs.declared.Verdict.{Verdict}
 use Rattle.wire.specs.declared.Verdict.the-variants.{Accepted, Refused}
-use Rattle.psv0_layout.specs.Field.{stage, usesViewId, outputVectors, inputVectors, hasPatchVectors, hasThreads, maskWords, sum, nameOffset, indexReference, rowCount}
+use Rattle.psv0_layout.specs.Field.{stage, usesViewId, outputVectors, inputVectors, vertexCount, vertexStage, patchByte, patchStage, topology, meshStage, threadCount, threadStage, maskWords, sum, nameOffset, indexReference, rowCount}
 use Rattle.psv0_layout.specs.Judged.{opened}
 use Rattle.psv0_layout.specs.Layout.{Body, Seen, seen, sections, editionRead}
 use Rattle.psv0_layout.specs.Reference.{stringAt, arrayAt, indexTotal}
@@ -108,15 +108,15 @@ value leastLanes v = number (u32At (v .runtime) 16)
 value mostLanes v = number (u32At (v .runtime) 20)
 value stageNumber v = number (stage (v .runtime))
 value usesView v = number (usesViewId (v .runtime))
-value maxVertexCount v = setIf (eqb (stage (v .runtime)) 2) (number (u16At (v .runtime) 26))
-value patchVectorCount v = setIf (hasPatchVectors (v .runtime)) (number (getD (v .runtime) 26 0))
-value meshTopology v = setIf (eqb (stage (v .runtime)) 13) (number (getD (v .runtime) 27 0))
+value maxVertexCount v = setIf (vertexStage (stage (v .runtime))) (number (vertexCount (v .runtime)))
+value patchVectorCount v = setIf (patchStage (stage (v .runtime))) (number (patchByte (v .runtime)))
+value meshTopology v = setIf (meshStage (stage (v .runtime))) (number (topology (v .runtime)))
 value inputElements v = number (getD (v .runtime) 28 0)
 value outputElements v = number (getD (v .runtime) 29 0)
 value patchElements v = number (getD (v .runtime) 30 0)
 value inputVectorCount v = number (inputVectors (v .runtime))
 value (outputVectorCount i) v = setIf (ltb i 4) (number (outputVectors (v .runtime) i))
-value (threads i) v = setIf (ltb i 3 && hasThreads (v .runtime)) (number (u32At (v .runtime) (36 + i * 4)))
+value (threads i) v = setIf (ltb i 3 && threadStage (stage (v .runtime))) (number (threadCount i (v .runtime)))
 value entryNameOffset v = number (u32At (v .runtime) 48)
 value (resourceField i f) v = ofResource (v .resources) i f
 value (elementField i f) v = ofElement (v .body) i (setIf (ltb f 13) (number (getD (elementFields (getD (v .body .elements) i [])) f 0)))

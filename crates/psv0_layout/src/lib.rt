@@ -118,10 +118,11 @@ pub enum Points {
     Unset,
 }
 
-// A verdict, a stretch of the data: where it starts and its length, and the code points where it is a string.
+// A verdict, a stretch of the data: where it starts and its length, and the code points where it is a string, which stand between the two: so the
+// compiler hands on each by itself, and need not wait until both can be read at once.
 pub struct Span {
     pub verdict: Verdict,
     pub start: usize,
-    pub len: usize,
     pub points: Points,
+    pub len: usize,
 }

@@ -12,9 +12,8 @@ use borrow.Author.Tests.{eq-eqb, ne-eqb, le-leb, lt-leb, leb-true, leb-false}
 use Rattle.wire.specs.Choice.{choose}
 use Rattle.wire.specs.Number.{u32At}
 use Rattle.psv0_layout.specs.Layout.{recordsFit}
-use Rattle.psv0_layout.specs.Position.{nextCounted, nextRecords}
+use Rattle.psv0_layout.specs.Position.{nextCounted, nextRecords, strideAt, firstRecord}
 use Rattle.psv0_layout.proofs.Positions.{nextRecords-some, recordsFit-at}
-use Rattle.psv0_sections.specs.Places.{strideAt, firstRecord}
 use Rattle.psv0_sections.specs.Steps.{stepTo, smallStep, tableAt}
 use Rattle.psv0_sections.specs.declared.Cursor.{Cursor}
 use Rattle.psv0_sections.specs.declared.Step.{Step}

@@ -1,7 +1,7 @@
 -- Where the sections of PSV0 data lie, for a reading at an edition.
 use mathlib.Core.Path.{_≡_}
 use mathlib.Core.List.{List}
-use Prim.Native.Nat.{ℕ, zero, suc, _+_, _*_, _≤_}
+use Prim.Native.Nat.{ℕ, _+_, _*_, _≤_}
 use lib.Dec.{leb}
 use lib.ListN.{length, take, drop}
 use Rattle.wire.specs.Choice.{choose}
@@ -11,18 +11,9 @@ use Rattle.wire.specs.declared.Verdict.the-variants.{Accepted, Refused}
 use Rattle.psv0_layout.specs.Field.{elementTotal, maskBytes}
 use Rattle.psv0_layout.specs.Judged.{opened}
 use Rattle.psv0_layout.specs.Layout.{guideOf, sections, editionRead}
-use Rattle.psv0_layout.specs.Position.{resourcesStart, stringsStart, indicesStart, elementsStart, masksStart}
+use Rattle.psv0_layout.specs.Position.{strideAt, firstRecord, resourcesStart, stringsStart, indicesStart, elementsStart, masksStart}
 use Rattle.psv0_sections.specs.declared.Located.{Located}
 use Rattle.psv0_sections.specs.declared.Places.{Places}
-
--- of n records that start, with their size, at a position: the size, and the position of the first
-unfoldable pub strideAt : ℕ → List ℕ → ℕ → ℕ
-strideAt zero d at = 0
-strideAt (suc n) d at = u32At d at
-
-unfoldable pub firstRecord : ℕ → ℕ → ℕ
-firstRecord zero at = at
-firstRecord (suc n) at = at + 4
 
 -- sections 1 and 2 alone, by S and the resource records' position, count and size
 abbrev pub headOnly : ℕ → ℕ → ℕ → ℕ → Places

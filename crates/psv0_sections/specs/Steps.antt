@@ -12,8 +12,8 @@ use Rattle.wire.specs.declared.Verdict.the-variants.{Accepted, Refused}
 use Rattle.psv0_layout.specs.Field.{elementTotal, maskBytes}
 use Rattle.psv0_layout.specs.Judged.{headJudged, bodyFits}
 use Rattle.psv0_layout.specs.Layout.{recordsFit, guideOf, after2}
-use Rattle.psv0_layout.specs.Position.{resourcesStart, stringsStart, nextRecords}
-use Rattle.psv0_sections.specs.Places.{strideAt, firstRecord, headPlaces, bodyPlaces, placesIf}
+use Rattle.psv0_layout.specs.Position.{strideAt, firstRecord, resourcesStart, stringsStart, nextRecords}
+use Rattle.psv0_sections.specs.Places.{headPlaces, bodyPlaces, placesIf}
 use Rattle.psv0_sections.specs.declared.Cursor.{Cursor}
 use Rattle.psv0_sections.specs.declared.Step.{Step}
 use Rattle.psv0_sections.specs.declared.Step.the-variants.{Past, Short}

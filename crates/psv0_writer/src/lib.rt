@@ -90,7 +90,7 @@ fn body_empty(strings: &[u8], indices: &[u8], elements: &[u8], masks: &[u8]) -> 
 }
 
 // The size of a resource record in an edition.
-fn resource_size(edition: usize) -> usize
+pub fn resource_size(edition: usize) -> usize
     ensures { λ r. ⌜ r ≡ resourceSize edition ⌝ }
 {
     if edition < 2 {

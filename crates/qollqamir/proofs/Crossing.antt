@@ -1,7 +1,7 @@
 -- Spans and signatures that cross the boundary.
 -- Assumes nothing.
 use Prim.Native.Nat.{ℕ, _≤_, _<_}
-use mathlib.Core.Path.{_≡_, _∙_, ap}
+use mathlib.Core.Path.{_≡_, refl, _∙_, ap}
 use mathlib.Core.Bool.{true}
 use mathlib.Core.List.{List}
 use native.Mathlib.Omega.{arith}
@@ -9,22 +9,42 @@ use lib.Dec.{ltb}
 use borrow.Author.Tests.{lt-ltb, le-ltb}
 use Rattle.wire.specs.declared.Verdict.{Verdict}
 use Rattle.wire.specs.declared.Verdict.the-variants.{Accepted, Refused}
-use Rattle.container.specs.Opened.{containerOpeningOf}
+use Rattle.constants.specs.Edition.{fileEdition}
+use Rattle.constants.proofs.Editions.{edition-few}
+use Rattle.wire.specs.Number.{u32At}
+use Rattle.part_table_layout.specs.Table.{countOf}
+use Rattle.part_table_layout.proofs.Accepted.{accepted-told}
+use Rattle.container.specs.Opened.{containerOpeningOf, placedIf, containerPlacesOf}
 use Rattle.container.proofs.Queries.{opening-verdict}
 use Rattle.container.specs.declared.ContainerOpening.{ContainerOpening}
-use Rattle.container_layout.specs.Container.{containerJudged}
-use Rattle.psv0_layout.specs.Answers.{bytesOf, bytesBeside, sectionOf, SpanShows}
+use Rattle.container.specs.declared.ContainerPlaces.{ContainerPlaces}
+use Rattle.container_layout.specs.Container.{psvOf, containerJudged}
+use Rattle.container_layout.specs.Placed.{containerPlaces}
+use Rattle.container_layout.proofs.Containers.{before-told, opened-told}
+use Rattle.places_layout.specs.Answers.{SectionBy}
+use Rattle.places_layout.specs.Placed.{openedPlaces}
+use Rattle.places_layout.specs.declared.PlacesAnswer.{PlacesAnswer}
+use Rattle.places_layout.specs.declared.SectionPlaces.{SectionPlaces}
+use Rattle.psv0_layout.specs.Judged.{opened}
+use Rattle.psv0_layout.proofs.Spans.{refused-shows}
+use Rattle.psv0_layout.specs.Answers.{numberBeside, bytesOf, bytesBeside, sectionOf, refusedSpan, SpanShows}
 use Rattle.psv0_layout.specs.declared.Points.{Points}
 use Rattle.psv0_layout.specs.declared.Span.{Span}
 use Rattle.psv0_layout.specs.Handed.{handed}
 use Rattle.psv0_layout.specs.Shown.{Value, queried}
+use Rattle.psv0_writer_layout.specs.Written.{lengthIf}
+use Rattle.replacing_layout.specs.Answer.{replacementOf}
+use Rattle.replacing_layout.specs.Judged.{replacingJudged}
+use Rattle.replacing_layout.specs.Replaced.{replaced}
+use Rattle.replacing_layout.specs.declared.Replacement.{Replacement}
+use Rattle.replacing_layout.proofs.Replacing.{passed-told}
 use Rattle.signature_layout.specs.Signature.{refusedElement, viewOf}
 use Rattle.signature_layout.specs.declared.SignatureAnswer.{SignatureAnswer}
 use Rattle.signature_report_layout.specs.Reported.{signatureReportOf, elementReportOf, differenceOf}
 use Rattle.signature_report_layout.specs.declared.DifferenceReport.{DifferenceReport}
 use Rattle.signature_report_layout.specs.declared.SignaturePart.{SignaturePart}
 use Rattle.signature_report_layout.specs.declared.SignatureReport.{SignatureReport}
-use Rattle.qollqamir.specs.Boundary.{cVerdict, isString, pointsNumber, cSpan, cSignatureReport, cDifference, partNumbered, noPart, reportNumbered, elementNumbered, differenceNumbered, CShows, sectionNumbered, sectionVerdict, sectionShown}
+use Rattle.qollqamir.specs.Boundary.{cVerdict, isString, pointsNumber, cSpan, cSignatureReport, cDifference, partNumbered, noPart, reportNumbered, elementNumbered, differenceNumbered, CShows, sectionNumbered, sectionVerdict, sectionShown, placedSection}
 use Rattle.qollqamir.specs.declared.CDifference.{CDifference}
 use Rattle.qollqamir.specs.declared.CSignatureReport.{CSignatureReport}
 use Rattle.qollqamir.specs.declared.CSpan.{CSpan}
@@ -99,3 +119,44 @@ module _ (k : ℕ) (b : List ℕ) (i : ℕ) {n : ℕ} where
 
     pub name-crossed : {a : Span} → a ≡ viewOf (elementReportOf s k b i) → a ≡ viewOf (elementNumbered n k b i)
     name-crossed ha = ha ∙ ap (λ (q : SignatureAnswer). viewOf q) element-is
+
+-- ---- an opening with places: its numbers are small
+file-small : (v : Verdict) (s : ℕ) → numberBeside v (fileEdition s) < 4294967296
+file-small Accepted s = omega (arith, edition-few s)
+file-small (Refused n p) s = omega arith
+
+pub psv-opened-small : (k : ℕ) (d : List ℕ) {o : PlacesAnswer} → o ≡ openedPlaces k d → o .«file_edition» < 4294967296
+unfolding openedPlaces
+psv-opened-small k d e = rw e (file-small (opened k d) (u32At d 0))
+
+pub opened-small : (k : ℕ) (b : List ℕ) {o : ContainerPlaces} → o ≡ containerPlacesOf k b → (o .parts < 4294967296) × (o .«file_edition» < 4294967296)
+unfolding containerPlacesOf
+opened-small k b e = rw e (go (containerJudged k b) refl)
+  where
+    go : (v : Verdict) → containerJudged k b ≡ v
+        → (placedIf v (countOf b) (fileEdition (u32At (psvOf b) 0)) (containerPlaces k b) .parts < 4294967296)
+        × (placedIf v (countOf b) (fileEdition (u32At (psvOf b) 0)) (containerPlaces k b) .«file_edition» < 4294967296)
+    go Accepted h =
+        let few = accepted-told b (before-told k b (opened-told k b h .0) .table) .header .few in
+        (omega arith, omega (arith, edition-few (u32At (psvOf b) 0)))
+    go (Refused n p) h = (omega arith, omega arith)
+
+-- ---- a section by places
+pub no-placed-section : (n : ℕ) (p : SectionPlaces) (b : List ℕ) {s : Span} {r : CSpan} → 5 < n → s ≡ refusedSpan 26 0 → r ≡ cSpan s
+    → CShows b (placedSection n p b .verdict) (bytesOf (placedSection n p b .value)) Points.Unset r
+unfolding placedSection
+no-placed-section n p b h g e = rw (le-ltb n 6 h) (crossed (rw g (refused-shows b 26 0)) e)
+
+pub some-placed-section : (n : ℕ) (p : SectionPlaces) (b : List ℕ) {s : Span} {r : CSpan} → n ≤ 5 → SectionBy p b (sectionNumbered n) s → r ≡ cSpan s
+    → CShows b (placedSection n p b .verdict) (bytesOf (placedSection n p b .value)) Points.Unset r
+unfolding placedSection
+some-placed-section n p b h g e = rw (lt-ltb n 6 (omega arith)) (crossed g e)
+
+-- ---- a container with other PSV0 data is no longer than the limit
+pub replaced-small : (k : ℕ) (b new : List ℕ) (room : ℕ) {a : Replacement} → a ≡ replacementOf k b new room → a .len < 4294967296
+unfolding replacementOf
+replaced-small k b new room e = rw e (go (replacingJudged k b new room) refl)
+  where
+    go : (v : Verdict) → replacingJudged k b new room ≡ v → lengthIf v (replaced b new) < 4294967296
+    go Accepted h = omega (arith, passed-told k b new room h .short)
+    go (Refused n p) h = omega arith

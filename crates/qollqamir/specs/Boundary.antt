@@ -10,6 +10,7 @@ use Rattle.wire.specs.declared.Verdict.{Verdict}
 use Rattle.wire.specs.declared.Verdict.the-variants.{Accepted, Refused}
 use Rattle.assembler_layout.specs.declared.Assembly.{Assembly}
 use Rattle.container.specs.declared.ContainerOpening.{ContainerOpening}
+use Rattle.container.specs.declared.ContainerPlaces.{ContainerPlaces}
 use Rattle.dxil_layout.specs.declared.Program.{Program}
 use Rattle.dxil_layout.specs.declared.ProgramHeader.{ProgramHeader}
 use Rattle.dxil_report_layout.specs.declared.ProgramReport.{ProgramReport}
@@ -41,6 +42,11 @@ use Rattle.psv0_layout.specs.declared.Span.{Span}
 use Rattle.psv0_layout.specs.declared.View.{View}
 use Rattle.psv0_layout.specs.declared.View.the-variants.{StageUnion, ElementString, ElementArray, EntryName, Mask}
 use Rattle.psv0_layout.specs.Handed.{handed}
+use Rattle.replacing_layout.specs.declared.Replacement.{Replacement}
+use Rattle.places_layout.specs.Handed.{handedBy}
+use Rattle.places_layout.specs.Read.{Answer, refusal}
+use Rattle.places_layout.specs.declared.PlacesAnswer.{PlacesAnswer}
+use Rattle.places_layout.specs.declared.SectionPlaces.{SectionPlaces}
 use Rattle.psv0_layout.specs.Shown.{Value, queried}
 use Rattle.psv0_writer_layout.specs.declared.Written.{Written}
 use Rattle.container_layout.specs.Container.{containerJudged}
@@ -75,6 +81,7 @@ use Rattle.qollqamir.specs.declared.CDifference.{CDifference}
 use Rattle.qollqamir.specs.declared.NameParts.{NameParts}
 use Rattle.qollqamir.specs.declared.CItem.{CItem}
 use Rattle.qollqamir.specs.declared.CRange.{CRange}
+use Rattle.qollqamir.specs.declared.CReplaced.{CReplaced}
 use Rattle.qollqamir.specs.declared.CRoot.{CRoot}
 use Rattle.qollqamir.specs.declared.CRootReport.{CRootReport}
 use Rattle.qollqamir.specs.declared.CAdded.{CAdded}
@@ -87,6 +94,7 @@ use Rattle.qollqamir.specs.declared.CVerdict.{CVerdict}
 use Rattle.qollqamir.specs.declared.CField.{CField}
 use Rattle.qollqamir.specs.declared.CTable.{CTable}
 use Rattle.qollqamir.specs.declared.CPart.{CPart}
+use Rattle.qollqamir.specs.declared.COpened.{COpened}
 use Rattle.qollqamir.specs.declared.COpening.{COpening}
 use Rattle.qollqamir.specs.declared.CInfo.{CInfo}
 use Rattle.qollqamir.specs.declared.CResource.{CResource}
@@ -129,6 +137,27 @@ cOpening o =
 unfoldable pub cPsvOpening : Opening → COpening
 cPsvOpening o =
     record { verdict = cVerdict (o .verdict); parts = 0; «file_edition» = o .«file_edition»; «edition_read» = o .«edition_read» }
+
+-- an opening with its places; the edition read is theirs
+unfoldable pub cOpened : ContainerPlaces → COpened
+cOpened o =
+    record {
+      verdict = cVerdict (o .verdict);
+      parts = o .parts;
+      «file_edition» = o .«file_edition»;
+      «edition_read» = o .places .edition;
+      places = o .places;
+    }
+
+unfoldable pub cPsvOpened : PlacesAnswer → COpened
+cPsvOpened o =
+    record {
+      verdict = cVerdict (o .verdict);
+      parts = 0;
+      «file_edition» = o .«file_edition»;
+      «edition_read» = o .places .edition;
+      places = o .places;
+    }
 
 unfoldable pub cInfo : InfoAnswer → CInfo
 cInfo a =
@@ -217,6 +246,9 @@ cSpan s =
 
 unfoldable pub cWritten : Written → CWritten
 cWritten w = record { verdict = cVerdict (w .verdict); len = w .len }
+
+unfoldable pub cReplaced : Replacement → CReplaced
+cReplaced a = record { verdict = cVerdict (a .verdict); len = a .len; places = a .places }
 
 unfoldable pub cAssembly : Assembly → CWritten
 cAssembly w = record { verdict = cVerdict (w .verdict); len = w .len }
@@ -438,6 +470,10 @@ sectionVerdict s o x = choose (ltb s 6) o (queried o x)
 
 unfoldable pub sectionShown : ℕ → Verdict → ℕ → List ℕ → Value → List ℕ
 sectionShown s o er d x = choose (ltb s 6) (bytesBeside o (handed er d (sectionOf (sectionNumbered s)))) (bytesOf x)
+
+-- the same by places: 26 where s is above 5
+unfoldable pub placedSection : ℕ → SectionPlaces → List ℕ → Answer
+placedSection s p b = choose (ltb s 6) (handedBy p b (sectionOf (sectionNumbered s))) (refusal 26)
 
 -- ---- settings files
 unfoldable pub cSettings : Settings → CSettings

@@ -3,6 +3,7 @@
 // No struct has padding: a field is as wide as its place, so that each byte of an answer is a byte of a field that the promise names.
 use assembler_layout::Assembly;
 use container::ContainerOpening;
+use container::ContainerPlaces;
 use dxil_layout::Program;
 use dxil_layout::ProgramHeader;
 use dxil_report_layout::ProgramReport;
@@ -15,6 +16,8 @@ use figures_layout::Joining;
 use part_table_layout::Found;
 use part_table_layout::Part;
 use part_table_layout::Table;
+use places_layout::PlacesAnswer;
+use places_layout::SectionPlaces;
 use psv0_layout::ElementAnswer;
 use psv0_layout::Field;
 use psv0_layout::InfoAnswer;
@@ -26,6 +29,7 @@ use psv0_layout::Section;
 use psv0_layout::Span;
 use psv0_layout::View;
 use psv0_writer_layout::Written;
+use replacing_layout::Replacement;
 use root_signature_layout::Item;
 use root_signature_layout::ItemAnswer;
 use root_signature_layout::RangeAnswer;
@@ -45,29 +49,34 @@ use signature_report_layout::SignaturePart;
 use signature_report_layout::SignatureReport;
 use wire::Verdict;
 ghost use mathlib.Core.Path.{_≡_};
+ghost use Prim.Native.Nat.{_<_};
 ghost use lib.ListN.{length};
 ghost use Rattle.assembler_layout.specs.Answer as assembly;
 ghost use Rattle.constants.specs.Edition.{fileEdition};
 ghost use Rattle.constants.specs.Name.{isKnown};
-ghost use Rattle.container.specs.Opened.{containerOpeningOf};
+ghost use Rattle.container.specs.Opened.{containerOpeningOf, containerPlacesOf};
 ghost use Rattle.container_layout.specs.Container.{psvOf, containerJudged, containerAnswered, containerPart, containerOccurrence};
 ghost use Rattle.dxil_layout.specs.Program.{programOf};
 ghost use Rattle.dxil_report_layout.specs.Reported.{programReportOf};
 ghost use Rattle.figures_layout.specs.Figures.{started, added, joined};
 ghost use Rattle.part_table_layout.specs.Lookup.{partOf, occurrenceOf};
 ghost use Rattle.part_table_layout.specs.Table.{tableOf};
+ghost use Rattle.places_layout.specs.Answers.{shownBy, infoBy, resourceBy, elementBy, lengthsBy};
+ghost use Rattle.places_layout.specs.Placed.{openedPlaces};
+ghost use Rattle.places_layout.specs.Read.{answeredBy};
 ghost use Rattle.psv0_layout.specs.Answers.{openingOf, infoAnswerOf, resourceAnswerOf, elementAnswerOf, lengthsAnswerOf, refusedInfo, refusedResource, refusedElement, questionOf, pointsOf, bytesOf, bytesBeside};
 ghost use Rattle.psv0_layout.specs.Judged.{opened};
 ghost use Rattle.psv0_layout.specs.Layout.{editionRead, defaultEdition};
 ghost use Rattle.psv0_layout.specs.Shown.{answered, queried};
 ghost use Rattle.psv0_writer_layout.specs.Answer as writing;
+ghost use Rattle.replacing_layout.specs.Answer.{replacementOf, outputOf};
 ghost use Rattle.root_signature_layout.specs.Root.{rootOf, itemOf, itemAloneOf, rangeAnswerOf, rangeAloneOf};
 ghost use Rattle.root_signature_report_layout.specs.Reported.{rootReportOf, itemReportOf, rangeReportOf};
 ghost use Rattle.settings_layout.specs.Given as settingsWriting;
 ghost use Rattle.settings_layout.specs.Shown.{settingsOf, rowAnswerOf, rowAloneOf, settingAnswerOf};
 ghost use Rattle.signature_layout.specs.Signature.{signatureOf, elementOf, aloneOf, viewOf as nameView};
 ghost use Rattle.wire.specs.Number.{u32At};
-ghost use Rattle.qollqamir.specs.Boundary.{cVerdict, cField, cTable, cPart, cOpening, cPsvOpening, cInfo, cResource, cElement, cLengths, isString, pointsNumber, cSpan, cWritten, cAssembly, stagesNumber, cHeader, cProgram, cReport, cSignature, cSignatureReport, nameParts, cSignatureElement, cDifference, partNumbered, noPart, reportNumbered, elementNumbered, differenceNumbered, cRoot, cRootReport, parameterFields, cItem, cRange, cSettings, cSettingsRow, cSettingsRowAlone, settingField, cSetting, cSettingsWritten, additionNumber, additionVerdict, cAdded, joiningNumber, cJoined, viewOf, sectionNumbered, sectionVerdict, sectionShown, CShows};
+ghost use Rattle.qollqamir.specs.Boundary.{cVerdict, cField, cTable, cPart, cOpening, cPsvOpening, cOpened, cPsvOpened, placedSection, cInfo, cResource, cElement, cLengths, isString, pointsNumber, cSpan, cWritten, cReplaced, cAssembly, stagesNumber, cHeader, cProgram, cReport, cSignature, cSignatureReport, nameParts, cSignatureElement, cDifference, partNumbered, noPart, reportNumbered, elementNumbered, differenceNumbered, cRoot, cRootReport, parameterFields, cItem, cRange, cSettings, cSettingsRow, cSettingsRowAlone, settingField, cSetting, cSettingsWritten, additionNumber, additionVerdict, cAdded, joiningNumber, cJoined, viewOf, sectionNumbered, sectionVerdict, sectionShown, CShows};
 
 // A verdict: the refusal's number, 0 where the call accepts, and its place.
 #[repr(C)]
@@ -113,6 +122,16 @@ pub struct COpening {
     pub parts: usize,
     pub file_edition: usize,
     pub edition_read: usize,
+}
+
+// An opening with the places of the PSV0 sections.
+#[repr(C)]
+pub struct COpened {
+    pub verdict: CVerdict,
+    pub parts: u32,
+    pub file_edition: u32,
+    pub edition_read: u32,
+    pub places: SectionPlaces,
 }
 
 // The fields of the runtime record.
@@ -196,6 +215,14 @@ pub struct CSpan {
 pub struct CWritten {
     pub verdict: CVerdict,
     pub len: usize,
+}
+
+// A container with other PSV0 data: the length of the result, and the places of its PSV0 sections.
+#[repr(C)]
+pub struct CReplaced {
+    pub verdict: CVerdict,
+    pub len: u32,
+    pub places: SectionPlaces,
 }
 
 // The fields of the program header and of the bitcode header.
@@ -647,6 +674,37 @@ fn c_opening(o: ContainerOpening) -> COpening
     }
 }
 
+// What an opening with places hands over. A container lists at most 96 parts, and an edition is at most 3.
+fn c_opened(o: ContainerPlaces) -> COpened
+    requires { ⌜ (o .parts < 4294967296) × (o .«file_edition» < 4294967296) ⌝ }
+    ensures { λ r. ⌜ r ≡ cOpened o ⌝ }
+{
+    let v = o.verdict;
+    let places = o.places;
+    COpened {
+        verdict: c_verdict(v),
+        parts: o.parts as u32,
+        file_edition: o.file_edition as u32,
+        edition_read: places.edition,
+        places,
+    }
+}
+
+fn c_psv_opened(o: PlacesAnswer) -> COpened
+    requires { ⌜ o .«file_edition» < 4294967296 ⌝ }
+    ensures { λ r. ⌜ r ≡ cPsvOpened o ⌝ }
+{
+    let v = o.verdict;
+    let places = o.places;
+    COpened {
+        verdict: c_verdict(v),
+        parts: 0,
+        file_edition: o.file_edition as u32,
+        edition_read: places.edition,
+        places,
+    }
+}
+
 fn c_psv_opening(o: Opening) -> COpening
     ensures { λ r. ⌜ r ≡ cPsvOpening o ⌝ }
 {
@@ -698,6 +756,20 @@ fn c_written(w: Written) -> CWritten
     CWritten {
         verdict: c_verdict(v),
         len: w.len,
+    }
+}
+
+// A container is at most 16,777,216 bytes long.
+fn c_replaced(a: Replacement) -> CReplaced
+    requires { ⌜ a .len < 4294967296 ⌝ }
+    ensures { λ r. ⌜ r ≡ cReplaced a ⌝ }
+{
+    let v = a.verdict;
+    let places = a.places;
+    CReplaced {
+        verdict: c_verdict(v),
+        len: a.len as u32,
+        places,
     }
 }
 
@@ -1307,12 +1379,13 @@ pub extern "C" fn qollqamir_part_occurrence(
 pub extern "C" fn qollqamir_runtime_info(b: &[u8], edition: usize) -> CInfo
     ensures { λ r. ⌜ r ≡ cInfo (infoAnswerOf (containerJudged edition (now (b .entry))) (containerAnswered edition (now (b .entry)))) ⌝ }
 {
-    let a = container::runtime_info(b, edition);
-    let v = a.verdict;
+    let o = container::open_places(b, edition);
+    let v = o.verdict;
     if let Verdict::Refused(n, place) = v {
         return no_info(n, place);
     }
-    let shown = c_info(a);
+    let p = o.places;
+    let shown = qollqamir_places_runtime_info(b, p);
     shown
 }
 
@@ -1360,6 +1433,79 @@ pub extern "C" fn qollqamir_section(b: &[u8], edition: usize, section: u32) -> C
     c_span(container::section_span(b, edition, section_of(section)))
 }
 
+// Opens a container at an edition, with the places of its PSV0 sections.
+#[no_mangle]
+pub extern "C" fn qollqamir_open_places(b: &[u8], edition: usize) -> COpened
+    ensures { λ r. ⌜ r ≡ cOpened (containerPlacesOf edition (now (b .entry))) ⌝ }
+{
+    c_opened(container::open_places(b, edition))
+}
+
+// Opens PSV0 data alone, with the places of its sections; it has no parts.
+#[no_mangle]
+pub extern "C" fn qollqamir_psv0_open_places(d: &[u8], edition: usize) -> COpened
+    ensures { λ r. ⌜ r ≡ cPsvOpened (openedPlaces edition (now (d .entry))) ⌝ }
+{
+    c_psv_opened(psv0::open_places(d, edition))
+}
+
+// The fields of the runtime record, by places. The two calls that open the bytes end here, so that they are put into C's struct in one place, and not
+// copied from there.
+#[no_mangle]
+pub extern "C" fn qollqamir_places_runtime_info(b: &[u8], p: SectionPlaces) -> CInfo
+    ensures { λ r. ⌜ r ≡ cInfo (infoBy p (now (b .entry))) ⌝ }
+{
+    c_info(places::runtime_info(b, p))
+}
+
+// Resource record i, by places.
+#[no_mangle]
+pub extern "C" fn qollqamir_places_resource(b: &[u8], p: SectionPlaces, i: usize) -> CResource
+    ensures { λ r. ⌜ r ≡ cResource (resourceBy p (now (b .entry)) i) ⌝ }
+{
+    c_resource(places::resource(b, p, i))
+}
+
+// Element record i, over all lists, by places.
+#[no_mangle]
+pub extern "C" fn qollqamir_places_element(b: &[u8], p: SectionPlaces, i: usize) -> CElement
+    ensures { λ r. ⌜ r ≡ cElement (elementBy p (now (b .entry)) i) ⌝ }
+{
+    c_element(places::element(b, p, i))
+}
+
+// The lists' lengths, by places.
+#[no_mangle]
+pub extern "C" fn qollqamir_places_lengths(b: &[u8], p: SectionPlaces) -> CLengths
+    ensures { λ r. ⌜ r ≡ cLengths (lengthsBy p (now (b .entry))) ⌝ }
+{
+    c_lengths(places::lengths(b, p))
+}
+
+// A view by its kind and number, by places.
+#[no_mangle]
+pub extern "C" fn qollqamir_places_view(
+    b: &[u8],
+    p: SectionPlaces,
+    kind: u32,
+    number: usize,
+) -> CSpan
+    ensures { λ r. ⌜ CShows (now (b .entry)) (answeredBy p (now (b .entry)) (questionOf (viewOf kind number)) .verdict) (bytesOf (shownBy p (now (b .entry)) (questionOf (viewOf kind number)))) (pointsOf (viewOf kind number) (shownBy p (now (b .entry)))) r ⌝ }
+{
+    c_span(places::view_span(b, p, view_of(kind, number)))
+}
+
+// The bytes of a section for writing again, by places; a section above 5 is one that isn't there.
+#[no_mangle]
+pub extern "C" fn qollqamir_places_section(b: &[u8], p: SectionPlaces, section: u32) -> CSpan
+    ensures { λ r. ⌜ CShows (now (b .entry)) (placedSection section p (now (b .entry)) .verdict) (bytesOf (placedSection section p (now (b .entry)) .value)) Points.Unset r ⌝ }
+{
+    if 5 < section {
+        return c_span(places::refused_span(26, 0));
+    }
+    c_span(places::section_span(b, p, section_of(section)))
+}
+
 // Opens PSV0 data alone at an edition; it has no parts.
 #[no_mangle]
 pub extern "C" fn qollqamir_psv0_open(d: &[u8], edition: usize) -> COpening
@@ -1373,12 +1519,13 @@ pub extern "C" fn qollqamir_psv0_open(d: &[u8], edition: usize) -> COpening
 pub extern "C" fn qollqamir_psv0_runtime_info(d: &[u8], edition: usize) -> CInfo
     ensures { λ r. ⌜ r ≡ cInfo (infoAnswerOf (opened edition (now (d .entry))) (answered edition (now (d .entry)))) ⌝ }
 {
-    let a = psv0::runtime_info(d, edition);
-    let v = a.verdict;
+    let o = psv0::open_places(d, edition);
+    let v = o.verdict;
     if let Verdict::Refused(n, place) = v {
         return no_info(n, place);
     }
-    let shown = c_info(a);
+    let p = o.places;
+    let shown = qollqamir_places_runtime_info(d, p);
     shown
 }
 
@@ -1686,6 +1833,20 @@ pub extern "C" fn qollqamir_assemble(
     ensures { λ r. ⌜ now (out .exit) ≡ assembly.output (assembly.given (now (names .entry)) (now (sizes .entry)) (now («data» .entry)) (now (digest .entry))) (now (out .entry)) ⌝ }
 {
     c_assembly(assembler::assemble(names, sizes, data, digest, out))
+}
+
+// A container with other PSV0 data in the place of its own.
+#[no_mangle]
+pub extern "C" fn qollqamir_replace_psv0(
+    b: &[u8],
+    edition: usize,
+    new: &[u8],
+    out: &mut [u8],
+) -> CReplaced
+    ensures { λ r. ⌜ r ≡ cReplaced (replacementOf edition (now (b .entry)) (now (new .entry)) (length (now (out .entry)))) ⌝ }
+    ensures { λ r. ⌜ now (out .exit) ≡ outputOf edition (now (b .entry)) (now (new .entry)) (now (out .entry)) ⌝ }
+{
+    c_replaced(replacing::replace_psv0(b, edition, new, out))
 }
 
 // Writes a settings file from rows as numbers, three a row.

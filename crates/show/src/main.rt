@@ -2,6 +2,7 @@
 use arguments::Contents;
 use dxil_report_layout::Stages;
 use part_table_layout::Found;
+use places_layout::SectionPlaces;
 use printing::number;
 use printing::text;
 use psv0_layout::Field;
@@ -82,8 +83,8 @@ fn pair(name: &[u8], f: Field) {
 }
 
 // Whether a view is set.
-fn shown(b: &[u8], edition: usize, view: View) -> bool {
-    let s = container::view_span(b, edition, view);
+fn shown(b: &[u8], p: SectionPlaces, view: View) -> bool {
+    let s = places::view_span(b, p, view);
     let v = s.verdict;
     match v {
         Verdict::Accepted => true,
@@ -99,12 +100,12 @@ fn string_of(s: &[u8], points: usize) {
     number(points);
 }
 
-fn string(b: &[u8], edition: usize, view: View) {
-    let s = container::view_span(b, edition, view);
+fn string(b: &[u8], p: SectionPlaces, view: View) {
+    let s = places::view_span(b, p, view);
     let points = s.points;
     match points {
         Points::Unset => text(b"unset"),
-        Points::Count(n) => string_of(container::view_bytes(b, edition, view), n),
+        Points::Count(n) => string_of(places::view_bytes(b, p, view), n),
     }
 }
 
@@ -193,17 +194,17 @@ fn entry(r: RuntimeInfo) {
     item(b"entry_name_offset", name);
 }
 
-fn runtime(b: &[u8], edition: usize) {
+fn runtime(b: &[u8], p: SectionPlaces) {
     text(b"stage_info ");
-    hex_bytes(container::view_bytes(b, edition, View::StageUnion));
+    hex_bytes(places::view_bytes(b, p, View::StageUnion));
     text(b"\n");
-    let a = container::runtime_info(b, edition);
+    let a = places::runtime_info(b, p);
     let r = a.info;
     stage(r);
     signatures(r);
     entry(r);
     text(b"entry_name ");
-    string(b, edition, View::EntryName);
+    string(b, p, View::EntryName);
     text(b"\n");
 }
 
@@ -217,8 +218,8 @@ fn count(f: Field) -> usize {
     }
 }
 
-fn resource(b: &[u8], edition: usize, i: usize) {
-    let a = container::resource(b, edition, i);
+fn resource(b: &[u8], p: SectionPlaces, i: usize) {
+    let a = places::resource(b, p, i);
     let r = a.resource;
     text(b"resource ");
     number(i);
@@ -237,12 +238,12 @@ fn resource(b: &[u8], edition: usize, i: usize) {
     text(b"\n");
 }
 
-fn resources(b: &[u8], edition: usize, f: Field) {
+fn resources(b: &[u8], p: SectionPlaces, f: Field) {
     item(b"resources", f);
     let n = count(f);
     let mut i = 0;
     while i < n {
-        resource(b, edition, i);
+        resource(b, p, i);
         i += 1;
     }
 }
@@ -262,14 +263,14 @@ fn array(x: &[u8]) {
     text(b"]");
 }
 
-fn element(b: &[u8], edition: usize, i: usize) {
+fn element(b: &[u8], p: SectionPlaces, i: usize) {
     text(b"element ");
     number(i);
     text(b" name ");
-    string(b, edition, View::ElementString(i));
+    string(b, p, View::ElementString(i));
     text(b" indices ");
-    array(container::view_bytes(b, edition, View::ElementArray(i)));
-    let a = container::element(b, edition, i);
+    array(places::view_bytes(b, p, View::ElementArray(i)));
+    let a = places::element(b, p, i);
     let e = a.element;
     let name = e.name_offset;
     pair(b"name_offset", name);
@@ -300,12 +301,12 @@ fn element(b: &[u8], edition: usize, i: usize) {
     text(b"\n");
 }
 
-fn elements(b: &[u8], edition: usize, f: Field) {
+fn elements(b: &[u8], p: SectionPlaces, f: Field) {
     item(b"elements", f);
     let n = count(f);
     let mut i = 0;
     while i < n {
-        element(b, edition, i);
+        element(b, p, i);
         i += 1;
     }
 }
@@ -318,22 +319,22 @@ fn mask_words(w: &[u8]) {
     }
 }
 
-fn mask(b: &[u8], edition: usize, m: usize) {
+fn mask(b: &[u8], p: SectionPlaces, m: usize) {
     text(b"mask ");
     number(m);
     text(b" ");
-    if shown(b, edition, View::Mask(m)) {
-        mask_words(container::view_bytes(b, edition, View::Mask(m)));
+    if shown(b, p, View::Mask(m)) {
+        mask_words(places::view_bytes(b, p, View::Mask(m)));
     } else {
         text(b"unset");
     }
     text(b"\n");
 }
 
-fn masks(b: &[u8], edition: usize) {
+fn masks(b: &[u8], p: SectionPlaces) {
     let mut m = 0;
     while m < 11 {
-        mask(b, edition, m);
+        mask(b, p, m);
         m += 1;
     }
 }
@@ -620,20 +621,21 @@ fn root(b: &[u8], edition: usize) {
 
 // ---- all of it
 
-fn dump(b: &[u8], edition: usize) {
+// The PSV0 lines go by the places p that the opening handed back; a report opens for itself.
+fn dump(b: &[u8], edition: usize, p: SectionPlaces) {
     parts(b);
-    runtime(b, edition);
-    let a = container::lengths(b, edition);
+    runtime(b, p);
+    let a = places::lengths(b, p);
     let l = a.lengths;
     let r = l.resources;
-    resources(b, edition, r);
+    resources(b, p, r);
     let t = l.strings;
     item(b"strings", t);
     let n = l.indices;
     item(b"indices", n);
     let e = l.elements;
-    elements(b, edition, e);
-    masks(b, edition);
+    elements(b, p, e);
+    masks(b, p);
     program(b, edition);
     signature_part(b, edition, SignaturePart::Input);
     signature_part(b, edition, SignaturePart::Output);
@@ -642,17 +644,18 @@ fn dump(b: &[u8], edition: usize) {
 }
 
 fn show(b: &[u8], edition: usize) {
-    let o = container::open(b, edition);
+    let o = container::open_places(b, edition);
     let v = o.verdict;
+    let places = o.places;
     match v {
-        Verdict::Refused(n, p) => printing::refusal(n, p),
+        Verdict::Refused(n, place) => printing::refusal(n, place),
         Verdict::Accepted => {
             text(b"edition ");
             number(o.file_edition);
             text(b" read ");
-            number(o.edition_read);
+            number(places.edition as usize);
             text(b"\n");
-            dump(b, edition);
+            dump(b, edition, places);
         }
     }
 }

@@ -19,7 +19,7 @@ use Rattle.psv0_layout.specs.Shown.{Question, view, inputElements, outputElemen
 use Rattle.psv0_layout.proofs.Listed.{total-short, handed-string}
 use Rattle.psv0_layout.proofs.Positions.{guide-seen}
 use Rattle.container_layout.specs.Container.{psvOf, containerJudged, containerAnswered}
-use Rattle.container_layout.proofs.Containers.{opened-told, opens-alone}
+use Rattle.container_layout.proofs.Containers.{data-opens}
 use Rattle.signature_report_layout.specs.Listed.{listed}
 use Rattle.signature_report_layout.specs.Reported.{countShown, listSize, listBefore, psvName}
 use Rattle.signature_report_layout.specs.declared.SignaturePart.{SignaturePart}
@@ -51,7 +51,7 @@ module _ (k : ℕ) (b : List ℕ) where
 
 module _ (k : ℕ) (b : List ℕ) (o : containerJudged k b ≡ Accepted) where
   alone : opened k (psvOf b) ≡ Accepted
-  alone = sym (opens-alone k b (opened-told k b o .0)) ∙ o
+  alone = data-opens k b o
 
   shown-is : (q : Question) → containerAnswered k b q ≡ shownAt (editionRead k (psvOf b)) (psvOf b) q
   unfolding containerAnswered

@@ -11,7 +11,7 @@ use crate::entries::at_least;
 use crate::make::get4;
 use crate::random::Random;
 use crate::strings::{ends_entry_name, Notes, Sections, Way};
-use crate::{entries, figures, roots, settings, signatures};
+use crate::{entries, figures, places, replace, roots, settings, signatures};
 
 /// A difference, and the bytes it was seen on.
 #[derive(Debug)]
@@ -72,6 +72,18 @@ pub enum Call {
     RowAlone,
     WriteRows,
     Add,
+    OpenPlaces,
+    Psv0Places,
+    PlacedInfo,
+    PlacedUnion,
+    PlacedResource,
+    PlacedElement,
+    PlacedString,
+    PlacedArray,
+    PlacedEntryName,
+    PlacedMask,
+    PlacedSection,
+    Replace,
 }
 
 /// The numbers of opening a container at an edition, and more.
@@ -86,7 +98,7 @@ const REPORTED: &[u8] = opening_and!(26, 43, 44, 45, 52);
 const ROOTED: &[u8] = opening_and!(26, 46, 47, 48, 49, 50, 51);
 
 /// The calls, and the numbers that each can give.
-pub const CALLS: [(&str, &[u8]); 33] = [
+pub const CALLS: [(&str, &[u8]); 45] = [
     ("table", &[1, 2, 3, 4, 5, 6, 7, 8, 9]),
     ("table part", &[1, 2, 3, 4, 5, 6, 7, 8, 9, 26]),
     ("part", opening_and!(26)),
@@ -120,6 +132,18 @@ pub const CALLS: [(&str, &[u8]); 33] = [
     ("row alone", &[53, 54, 55, 57, 58, 59]),
     ("write rows", &[27, 28, 56, 57, 58, 59]),
     ("add", opening_and!()),
+    ("places", opening_and!()),
+    ("psv0 places", &[2, 12, 13, 14, 15, 16, 17, 18, 19, 20, 21, 22, 23, 24, 25]),
+    ("at info", &[29]),
+    ("at union", &[29]),
+    ("at resource", &[26, 29]),
+    ("at element", &[26, 29]),
+    ("at string", &[26, 29]),
+    ("at array", &[26, 29]),
+    ("at entry", &[26, 29]),
+    ("at mask", &[26, 29]),
+    ("at section", &[26, 29]),
+    ("replace", opening_and!(27, 28)),
 ];
 
 /// The greatest number of documents 01 and 02 is below this.
@@ -343,7 +367,7 @@ pub const EDGES: [&str; 9] = [
 ];
 
 /// How often each call gave each verdict (0: it accepted), and at which places; how often each of `SEEN` came, and of `EDGES` in a
-/// reading and in a writer; what the strings, the tables' entries, the settings files and the figures were.
+/// reading and in a writer; what the strings, the tables' entries, the settings files, the figures and the places were, and what was replaced.
 pub struct Hits {
     pub counts: [[u64; NUMBERS]; CALLS.len()],
     pub places: [[BTreeSet<usize>; NUMBERS]; CALLS.len()],
@@ -354,6 +378,8 @@ pub struct Hits {
     pub entries: entries::Notes,
     pub settings: settings::Notes,
     pub figures: figures::Notes,
+    pub placed: places::Notes,
+    pub replaced: replace::Notes,
 }
 
 impl Default for Hits {
@@ -368,6 +394,8 @@ impl Default for Hits {
             entries: entries::Notes::default(),
             settings: settings::Notes::default(),
             figures: figures::Notes::default(),
+            placed: places::Notes::default(),
+            replaced: replace::Notes::default(),
         }
     }
 }
@@ -478,9 +506,13 @@ fn opening_of(answer: &Result<Opening, Refusal>) -> raw::Opening {
 }
 
 fn info_of(answer: &Result<Opening, Refusal>) -> raw::Info {
-    let r = answer.as_ref().map(|opening| opening.runtime).unwrap_or_default();
+    runtime_of(answer.as_ref().map(|opening| opening.runtime).map_err(|refusal| *refusal))
+}
+
+pub fn runtime_of(answer: Result<reference::Runtime, Refusal>) -> raw::Info {
+    let r = answer.unwrap_or_default();
     raw::Info {
-        verdict: verdict_of(answer),
+        verdict: verdict_of(&answer),
         minimum_wave_lanes: field(r.minimum_wave_lanes),
         maximum_wave_lanes: field(r.maximum_wave_lanes),
         stage: field(r.stage),
@@ -509,7 +541,7 @@ fn lengths_of(answer: &Result<Opening, Refusal>) -> raw::Lengths {
     }
 }
 
-fn resource_of(answer: Result<reference::Resource, Refusal>) -> raw::Resource {
+pub fn resource_of(answer: Result<reference::Resource, Refusal>) -> raw::Resource {
     let verdict = verdict_of(&answer);
     let of = |get: fn(reference::Resource) -> Option<u32>| field(answer.ok().and_then(get));
     raw::Resource {
@@ -523,7 +555,7 @@ fn resource_of(answer: Result<reference::Resource, Refusal>) -> raw::Resource {
     }
 }
 
-fn element_of(answer: Result<reference::Element, Refusal>) -> raw::Element {
+pub fn element_of(answer: Result<reference::Element, Refusal>) -> raw::Element {
     let verdict = verdict_of(&answer);
     let of = |get: fn(reference::Element) -> u32| field(answer.ok().map(get));
     raw::Element {
@@ -660,8 +692,10 @@ pub fn same_text(
 pub struct Reader {
     pub name: &'static str,
     pub call: Call,
-    reference: for<'a> fn(&'a [u8], usize) -> Result<Opening<'a>, Refusal>,
+    pub reference: for<'a> fn(&'a [u8], usize) -> Result<Opening<'a>, Refusal>,
     pub open: fn(&[u8], usize) -> raw::Opening,
+    pub kept: Call,
+    pub open_places: fn(&[u8], usize) -> raw::Opened,
     pub info: fn(&[u8], usize) -> raw::Info,
     pub lengths: fn(&[u8], usize) -> raw::Lengths,
     pub resource: fn(&[u8], usize, usize) -> raw::Resource,
@@ -675,6 +709,8 @@ pub const CONTAINER: Reader = Reader {
     call: Call::Open,
     reference: reference::open,
     open: raw::open,
+    kept: Call::OpenPlaces,
+    open_places: raw::open_places,
     info: raw::runtime_info,
     lengths: raw::lengths,
     resource: raw::resource,
@@ -688,6 +724,8 @@ pub const PSV0: Reader = Reader {
     call: Call::Psv0,
     reference: reference::open_psv0,
     open: raw::psv0_open,
+    kept: Call::Psv0Places,
+    open_places: raw::psv0_open_places,
     info: raw::psv0_runtime_info,
     lengths: raw::psv0_lengths,
     resource: raw::psv0_resource,
@@ -760,6 +798,7 @@ pub fn reading(random: &mut Random, reader: &Reader, bytes: &[u8], edition: usiz
     let got = (reader.open)(bytes, edition);
     hits.note(reader.call, got.verdict);
     same!(bytes, got, opening_of(&expected), "{name} open {edition}");
+    places::opened(reader, bytes, edition, &expected, hits)?;
     if matches!(reader.call, Call::Open) {
         if edition == reference::DEFAULT_EDITION {
             let got = raw::open_default(bytes);
@@ -831,6 +870,7 @@ pub fn reading(random: &mut Random, reader: &Reader, bytes: &[u8], edition: usiz
     span(bytes, (reader.section)(bytes, edition, section), missing, format_args!("{name} section {edition} {section}"))?;
     if random.one_in(8) {
         wrapped(reader, bytes, edition, opening, hits)?;
+        places::at_times(reader, bytes, edition, opening, hits)?;
     }
     Ok(())
 }

@@ -53,7 +53,7 @@ fn long(random: &mut Random) -> &'static [u8] {
 }
 
 /// A right container, one that is flawed or damaged, or any bytes.
-fn container(random: &mut Random) -> Vec<u8> {
+pub fn container(random: &mut Random) -> Vec<u8> {
     let psv0 = match random.below(24) {
         0..=9 => Pieces::valid(random).bytes().0,
         10..=13 => {

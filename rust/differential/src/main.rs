@@ -1,4 +1,4 @@
-//! Holds the compiled library against the independent reader on containers, settings files and lists of containers made at random.
+//! Holds the compiled library against the independent reader on containers, places, settings files and lists of containers made at random.
 //!
 //!     differential [--cases N] [--seed S] [--only CASE]
 //!
@@ -11,8 +11,11 @@ mod faults;
 mod figures;
 mod lists;
 mod make;
+mod places;
 mod random;
+mod records;
 mod repeats;
+mod replace;
 mod roots;
 mod rows;
 mod settings;
@@ -90,12 +93,17 @@ fn main() -> ExitCode {
         if let Err(mismatch) = figures::fixed(seed, &mut done.hits) {
             return report(seed, "the long lists of every run", mismatch);
         }
+        if let Err(mismatch) = replace::fixed(seed, &mut done.hits) {
+            return report(seed, "the long results of every run", mismatch);
+        }
     }
     for number in numbers {
         let all = || {
             case(seed, number, &vectors, &mut done)?;
             settings::case(seed, number, &mut done.hits)?;
-            figures::case(seed, number, &mut done.hits)
+            figures::case(seed, number, &mut done.hits)?;
+            places::case(seed, number, &mut done.hits)?;
+            replace::case(seed, number, &mut done.hits)
         };
         let outcome = catch_unwind(AssertUnwindSafe(all));
         let outcome = outcome.unwrap_or_else(|_| Err(Mismatch { what: "a panic".to_string(), bytes: Vec::new() }));
@@ -178,6 +186,8 @@ fn summary(done: &Done) -> Vec<String> {
     done.hits.entries.summary(&mut missed);
     settings::summary(&done.hits, &mut missed);
     figures::summary(&done.hits, &mut missed);
+    places::summary(&done.hits, &mut missed);
+    replace::summary(&done.hits, &mut missed);
     println!("containers accepted by readers 0 to 3: {:?}", done.accepted);
     println!("widenings for readers 0 to 3: {:?}", done.widenings);
     println!("round trips: {}, of them from plain form {}", done.round_trips, done.plain);

@@ -59,6 +59,59 @@ structs! {
         edition_read: usize,
     }
 
+    /// What an opening keeps of PSV0, for queries by places: the edition read; of each section the place of its first byte after its
+    /// counts and sizes, its count and its record size; of the masks the place of the first and the 4-byte words of each; and the stage. Places count from
+    /// the first byte that was opened. A list without records has record size 0; at edition read 0 the stage and sections 3 to 6 have zeros. Plain
+    /// data to keep, copy and compare; any numbers may stand in it.
+    Places {
+        /// The edition read.
+        edition: u32,
+        /// Where the runtime record stands, which has the size of its edition.
+        runtime: u32,
+        /// Where the first resource record stands.
+        resources: u32,
+        /// How many there are.
+        resource_count: u32,
+        /// Their stated size.
+        resource_size: u32,
+        /// Where the string table stands.
+        strings: u32,
+        /// Its length.
+        string_bytes: u32,
+        /// Where the index table stands.
+        indices: u32,
+        /// How many numbers it has.
+        index_count: u32,
+        /// Where the first element record stands.
+        elements: u32,
+        /// How many there are, over all three lists.
+        element_count: u32,
+        /// Their stated size.
+        element_size: u32,
+        /// Where mask 0 stands.
+        masks: u32,
+        /// The words of masks 0 to 10.
+        mask_words: [u32; 11],
+        /// The stage, which decides what fields of the runtime record are set.
+        stage: u32,
+    }
+
+    /// An opening with its places: the number of parts, the file's edition and the edition read.
+    Opened {
+        verdict: Verdict,
+        parts: u32,
+        file_edition: u32,
+        edition_read: u32,
+        places: Places,
+    }
+
+    /// A container with other PSV0 data: its length, 0 beside a refusal, and the places of its PSV0 sections.
+    Replaced {
+        verdict: Verdict,
+        len: u32,
+        places: Places,
+    }
+
     /// The fields of the runtime record.
     Info {
         verdict: Verdict,
@@ -349,6 +402,14 @@ mod archive {
         pub fn qollqamir_psv0_lengths(data: *const u8, len: usize, edition: usize) -> Lengths;
         pub fn qollqamir_psv0_view(data: *const u8, len: usize, edition: usize, kind: u32, number: usize) -> Span;
         pub fn qollqamir_psv0_section(data: *const u8, len: usize, edition: usize, section: u32) -> Span;
+        pub fn qollqamir_open_places(bytes: *const u8, len: usize, edition: usize) -> Opened;
+        pub fn qollqamir_psv0_open_places(data: *const u8, len: usize, edition: usize) -> Opened;
+        pub fn qollqamir_places_runtime_info(bytes: *const u8, len: usize, places: Places) -> Info;
+        pub fn qollqamir_places_resource(bytes: *const u8, len: usize, places: Places, i: usize) -> Resource;
+        pub fn qollqamir_places_element(bytes: *const u8, len: usize, places: Places, i: usize) -> Element;
+        pub fn qollqamir_places_lengths(bytes: *const u8, len: usize, places: Places) -> Lengths;
+        pub fn qollqamir_places_view(bytes: *const u8, len: usize, places: Places, kind: u32, number: usize) -> Span;
+        pub fn qollqamir_places_section(bytes: *const u8, len: usize, places: Places, section: u32) -> Span;
         pub fn qollqamir_dxil_program(data: *const u8, len: usize) -> ProgramData;
         pub fn qollqamir_program(bytes: *const u8, len: usize, edition: usize) -> ProgramReport;
         pub fn qollqamir_sg1_read(data: *const u8, len: usize) -> SignatureData;
@@ -400,6 +461,15 @@ mod archive {
             out: *mut u8,
             out_len: usize,
         ) -> Written;
+        pub fn qollqamir_replace_psv0(
+            bytes: *const u8,
+            len: usize,
+            edition: usize,
+            part: *const u8,
+            part_len: usize,
+            out: *mut u8,
+            out_len: usize,
+        ) -> Replaced;
         pub fn qollqamir_write_settings(rows: *const u32, rows_len: usize, out: *mut u8, out_len: usize) -> Written;
         pub fn qollqamir_figures_start(edition: usize) -> Figures;
         pub fn qollqamir_figures_add(figures: Figures, bytes: *const u8, len: usize) -> FiguresAdded;
@@ -455,6 +525,22 @@ readers! {
     psv0_view => qollqamir_psv0_view(edition: usize, kind: u32, number: usize) -> Span;
     /// As [`section`], of PSV0 data alone.
     psv0_section => qollqamir_psv0_section(edition: usize, section: u32) -> Span;
+    /// As [`open`], with the places of the PSV0 sections.
+    open_places => qollqamir_open_places(edition: usize) -> Opened;
+    /// As [`psv0_open`], with the places of the sections.
+    psv0_open_places => qollqamir_psv0_open_places(edition: usize) -> Opened;
+    /// The fields of the runtime record by places, or 29.
+    places_runtime_info => qollqamir_places_runtime_info(places: Places) -> Info;
+    /// Resource record `i` by places, or 26, or 29.
+    places_resource => qollqamir_places_resource(places: Places, i: usize) -> Resource;
+    /// Element record `i` by places, or 26, or 29.
+    places_element => qollqamir_places_element(places: Places, i: usize) -> Element;
+    /// The lists' lengths by places; the bytes aren't looked at.
+    places_lengths => qollqamir_places_lengths(places: Places) -> Lengths;
+    /// A view by its kind and number and places, or 26, or 29.
+    places_view => qollqamir_places_view(places: Places, kind: u32, number: usize) -> Span;
+    /// The bytes of a section by places, or 26, or 29.
+    places_section => qollqamir_places_section(places: Places, section: u32) -> Span;
     /// The program header and the bitcode, of the data of a DXIL part alone: 40 to 42.
     dxil_program => qollqamir_dxil_program() -> ProgramData;
     /// The report on a container's DXIL part: 25, 1 to 24, 40 to 42.
@@ -573,6 +659,12 @@ pub fn assemble(names: &[u8], sizes: &[u32], data: &[u8], digest: &[u8], out: &m
             out.len(),
         )
     }
+}
+
+/// A container with other PSV0 data: 25, 1 to 24; 2, 12 to 24, 27 of the part; 2; 28.
+pub fn replace_psv0(bytes: &[u8], edition: usize, part: &[u8], out: &mut [u8]) -> Replaced {
+    // SAFETY: as said above.
+    unsafe { archive::qollqamir_replace_psv0(bytes.as_ptr(), bytes.len(), edition, part.as_ptr(), part.len(), out.as_mut_ptr(), out.len()) }
 }
 
 /// Writes a settings file from rows as numbers, three a row: 27, 54, 56 to 59, 28.

@@ -29,17 +29,19 @@
 
 mod calls;
 mod figures;
+mod places;
 mod root;
 mod settings;
 mod signature;
 
 pub use figures::{Added, Joined};
+pub use places::{replace_psv0, Placed, Replaced};
 pub use root::{root_signature, rts0_item_alone, rts0_range_alone, RootItem, RootRange, RootSignature};
 pub use settings::{write_settings, Settings, SettingsRow, SettingsRows};
 pub use signature::{first_difference, sg1_element_alone, signature, Elements, Signature, SignatureElement, SignaturePart};
 
 // Nothing in them can be unset, so they are shown as the calls give them.
-pub use calls::{Figures, ProgramHeader};
+pub use calls::{Figures, Places, ProgramHeader};
 
 /// The library's calls as the C header has them: plain structs that, but for figures, begin with a verdict.
 pub mod raw {
@@ -55,7 +57,7 @@ pub const DEFAULT_EDITION: Edition = 3;
 /// A refusal: a number of documents 01 and 02, and a place (a part, an element, an item or a byte where the number has one, otherwise 0).
 #[derive(Clone, Copy, Debug, PartialEq, Eq, Hash)]
 pub struct Refusal {
-    /// 1 to 28, or 40 to 60.
+    /// 1 to 29, or 40 to 60.
     pub number: u8,
     /// The part, element, item or byte, from 0.
     pub place: usize,
@@ -236,7 +238,7 @@ pub struct ProgramReport<'a> {
 }
 
 fn judged(verdict: raw::Verdict) -> Result<(), Refusal> {
-    match u8::try_from(verdict.number).expect("the numbers are 1 to 28 and 40 to 60") {
+    match u8::try_from(verdict.number).expect("the numbers are 1 to 29 and 40 to 60") {
         0 => Ok(()),
         number => Err(Refusal { number, place: verdict.place }),
     }
@@ -253,6 +255,10 @@ fn shown(bytes: &[u8], verdict: raw::Verdict, start: usize, len: usize) -> Resul
 
 fn viewed(bytes: &[u8], span: raw::Span) -> Result<&[u8], Refusal> {
     shown(bytes, span.verdict, span.start, span.len)
+}
+
+fn texted(bytes: &[u8], span: raw::Span) -> Result<Text<'_>, Refusal> {
+    Ok(Text::of(viewed(bytes, span)?, span.points))
 }
 
 fn found(bytes: &[u8], name: [u8; 4], part: raw::Found) -> Result<Part<'_>, Refusal> {
@@ -410,9 +416,9 @@ const MASK: u32 = 4;
 const STAGES_EQUAL: usize = 1;
 const STAGES_DIFFERENT: usize = 2;
 
-/// The queries that an opened container and opened PSV0 data share.
+/// The queries that an opened container and opened PSV0 data share: each goes by the places that the opening handed back, and opens nothing again.
 macro_rules! queries {
-    ($runtime:ident, $resource:ident, $element:ident, $lengths:ident, $view:ident, $section:ident) => {
+    () => {
         /// The bytes that were opened.
         pub fn bytes(&self) -> &'a [u8] {
             self.bytes
@@ -430,27 +436,32 @@ macro_rules! queries {
 
         /// The lesser of the file's edition and the one asked for.
         pub fn edition_read(&self) -> Edition {
-            self.edition_read
+            self.places.edition as Edition
+        }
+
+        /// The places of the sections, to keep beside the bytes: [`Placed::new`] takes both.
+        pub fn places(&self) -> Places {
+            self.places
         }
 
         /// The fields of the runtime record.
         pub fn runtime(&self) -> Runtime {
-            runtime_of(raw::$runtime(self.bytes, self.edition))
+            runtime_of(raw::places_runtime_info(self.bytes, self.places))
         }
 
         /// The lists' lengths.
         pub fn lengths(&self) -> Lengths {
-            lengths_of(raw::$lengths(self.bytes, self.edition))
+            lengths_of(raw::places_lengths(self.bytes, self.places))
         }
 
         /// Resource record `i`, or 26.
         pub fn resource(&self, i: usize) -> Result<Resource, Refusal> {
-            resource_of(raw::$resource(self.bytes, self.edition, i))
+            resource_of(raw::places_resource(self.bytes, self.places, i))
         }
 
         /// Element record `i`, numbered over all three lists, or 26.
         pub fn element(&self, i: usize) -> Result<Element, Refusal> {
-            element_of(raw::$element(self.bytes, self.edition, i))
+            element_of(raw::places_element(self.bytes, self.places, i))
         }
 
         /// The stage union, 16 bytes as they stand.
@@ -480,7 +491,7 @@ macro_rules! queries {
 
         /// The bytes of every section for writing again; none of one that is unset.
         pub fn sections(&self) -> Sections<'a> {
-            let section = |number| viewed(self.bytes, raw::$section(self.bytes, self.edition, number)).unwrap_or(&[]);
+            let section = |number| viewed(self.bytes, raw::places_section(self.bytes, self.places, number)).unwrap_or(&[]);
             Sections {
                 runtime: section(0),
                 resources: section(1),
@@ -492,12 +503,11 @@ macro_rules! queries {
         }
 
         fn text(&self, kind: u32, number: usize) -> Result<Text<'a>, Refusal> {
-            let span = raw::$view(self.bytes, self.edition, kind, number);
-            Ok(Text::of(viewed(self.bytes, span)?, span.points))
+            texted(self.bytes, raw::places_view(self.bytes, self.places, kind, number))
         }
 
         fn view(&self, kind: u32, number: usize) -> Result<&'a [u8], Refusal> {
-            viewed(self.bytes, raw::$view(self.bytes, self.edition, kind, number))
+            viewed(self.bytes, raw::places_view(self.bytes, self.places, kind, number))
         }
     };
 }
@@ -516,13 +526,15 @@ pub struct Container<'a> {
     edition: Edition,
     part_count: usize,
     file_edition: Edition,
-    edition_read: Edition,
+    places: Places,
 }
 
 impl<'a> Container<'a> {
-    /// Opens a container. Refusals in order: 25, 1 to 24.
+    /// Opens a container, and keeps the places of its PSV0 sections, so that many queries cost one opening. Refusals in order: 25, 1 to 24.
     pub fn open(bytes: &'a [u8], edition: Edition) -> Result<Self, Refusal> {
-        Self::opened(bytes, edition, raw::open(bytes, edition))
+        let raw::Opened { verdict, parts, file_edition, places, .. } = raw::open_places(bytes, edition);
+        judged(verdict)?;
+        Ok(Container { bytes, edition, part_count: parts as usize, file_edition: file_edition as Edition, places })
     }
 
     /// Opens a container where no edition is named: at [`DEFAULT_EDITION`], the newest.
@@ -541,12 +553,7 @@ impl<'a> Container<'a> {
     /// # assert_eq!(with_or_without_entry_name(b"DXBC").unwrap_err().number, 1);
     /// ```
     pub fn open_default(bytes: &'a [u8]) -> Result<Self, Refusal> {
-        Self::opened(bytes, DEFAULT_EDITION, raw::open_default(bytes))
-    }
-
-    fn opened(bytes: &'a [u8], edition: Edition, opening: raw::Opening) -> Result<Self, Refusal> {
-        judged(opening.verdict)?;
-        Ok(Container { bytes, edition, part_count: opening.parts, file_edition: opening.file_edition, edition_read: opening.edition_read })
+        Self::open(bytes, DEFAULT_EDITION)
     }
 
     /// The number of parts.
@@ -597,7 +604,12 @@ impl<'a> Container<'a> {
         root_signature(self.bytes, self.edition)
     }
 
-    queries!(runtime_info, resource, element, lengths, view, section);
+    /// This container with other PSV0 data, in plain form, in the place of its own, as [`replace_psv0`] writes it at this edition.
+    pub fn replace_psv0(&self, part: &[u8], out: &mut [u8]) -> Result<Replaced, Refusal> {
+        replace_psv0(self.bytes, self.edition, part, out)
+    }
+
+    queries!();
 }
 
 /// PSV0 data alone that a reader of one edition accepts.
@@ -618,16 +630,16 @@ pub struct Psv0<'a> {
     bytes: &'a [u8],
     edition: Edition,
     file_edition: Edition,
-    edition_read: Edition,
+    places: Places,
 }
 
 impl<'a> Psv0<'a> {
-    /// Opens PSV0 data. Refusals in order: 25, 2, 12 to 24.
+    /// Opens PSV0 data, and keeps the places of its sections, so that many queries cost one opening. Refusals in order: 25, 2, 12 to 24.
     pub fn open(bytes: &'a [u8], edition: Edition) -> Result<Self, Refusal> {
-        let opening = raw::psv0_open(bytes, edition);
-        judged(opening.verdict)?;
-        Ok(Psv0 { bytes, edition, file_edition: opening.file_edition, edition_read: opening.edition_read })
+        let raw::Opened { verdict, file_edition, places, .. } = raw::psv0_open_places(bytes, edition);
+        judged(verdict)?;
+        Ok(Psv0 { bytes, edition, file_edition: file_edition as Edition, places })
     }
 
-    queries!(psv0_runtime_info, psv0_resource, psv0_element, psv0_lengths, psv0_view, psv0_section);
+    queries!();
 }

@@ -1,7 +1,7 @@
 //! A reader and writer of DirectX containers and their PSV0 part, a reader of the
 //! DXIL part's header, of the signature parts and of the root signature, a reader and
 //! writer of settings files, and counts over a list of containers, written from
-//! documents 000, 001 and 01 and requests 1 to 3 and 5 to 10 of 02 alone. It is a second
+//! documents 000, 001 and 01 and requests 1 to 3 and 5 to 11 of 02 alone. It is a second
 //! opinion: every rule stands here as directly as it can be said, so that another reader
 //! can be held against it.
 //!
@@ -9,6 +9,8 @@
 //!   [`table_part_occurrence`] one part of it (26), [`after_last_part`] what follows.
 //! * [`open`] opens a whole container, [`open_psv0`] PSV0 data alone; both give
 //!   an [`Opening`], whose methods are the queries (refusal 26).
+//! * [`Places`] is the record of an opening's places and sizes. Its methods are the PSV0
+//!   queries once more, on any bytes (refusals 26 and 29).
 //! * [`program`] reads the header of DXIL data (refusals 40 to 42), and
 //!   [`program_report`] that of a container, with both stages.
 //! * [`signature`] reads the data of a signature part (refusals 43 to 45 and
@@ -20,7 +22,8 @@
 //!   and [`root_range`] one item or range of it by itself, [`root_report`] that of
 //!   a container.
 //! * [`write_psv0`] and [`assemble`] write, and [`plain`] says whether PSV0 data
-//!   has the form in which the writer would write it.
+//!   has the form in which the writer would write it. [`replace_psv0`] puts such data
+//!   in the place of a container's PSV0 data.
 //! * [`show`] prints all that an opening and the reports show, and [`inspect`]
 //!   what the small program does: the part table, or the refusal.
 //! * [`settings`] reads a settings file (refusals 53 to 60) and gives [`Settings`],
@@ -35,8 +38,10 @@
 
 mod figures;
 mod inspect;
+mod places;
 mod program;
 mod psv0;
+mod replace;
 mod root;
 mod settings;
 mod show;
@@ -47,11 +52,13 @@ mod write;
 
 pub use figures::{show_figures, Added, Figures, Joined};
 pub use inspect::inspect;
+pub use places::{Lengths, Places, Section};
 pub use program::{program, program_report, Program, ProgramReport, Stages};
 pub use psv0::{
     open, open_default, open_psv0, open_psv0_default, Element, Handed, Layout, Opening, Resource,
     Runtime,
 };
+pub use replace::replace_psv0;
 pub use root::{
     root_item, root_range, root_report, root_signature, RootItem, RootRange, RootSignature,
 };

@@ -2,8 +2,8 @@
 
 use crate::utf8::{bytes_at, Reference, References};
 use crate::{
-    find, find_occurrence, number2, number4, refusal, refusal_at, table, Part, Refusal, Text,
-    DEFAULT_EDITION, EDITION_SIZES, LEAST_RECORD, LONGEST, LONG_RESOURCE, MASKS, NEWEST,
+    find, find_occurrence, number2, number4, refusal, refusal_at, table, Part, Places, Refusal,
+    Text, DEFAULT_EDITION, EDITION_SIZES, LEAST_RECORD, LONGEST, LONG_RESOURCE, MASKS, NEWEST,
 };
 
 const GEOMETRY: u32 = 2;
@@ -17,6 +17,8 @@ const LAST_STAGE: u32 = 15;
 /// What is still ahead in the PSV0 data. It only ever gets shorter.
 struct Cursor<'a> {
     ahead: &'a [u8],
+    /// Where that begins in the bytes that were opened.
+    at: usize,
 }
 
 impl<'a> Cursor<'a> {
@@ -27,7 +29,14 @@ impl<'a> Cursor<'a> {
         }
         let (taken, ahead) = self.ahead.split_at(count as usize);
         self.ahead = ahead;
+        self.at += taken.len();
         Some(taken)
+    }
+
+    /// Where it stands, as a record of places has it: no bytes that are read are longer
+    /// than 2^24.
+    fn place(&self) -> u32 {
+        self.at as u32
     }
 
     /// The next four bytes as a number.
@@ -68,6 +77,12 @@ impl<'a> Records<'a> {
         Some(&self.bytes[i * size..(i + 1) * size])
     }
 
+    /// Where the records begin, when the cursor stands at their end, and their size.
+    /// Where there are none, that is where the record size would have stood, and 0.
+    fn place_and_size(&self, end: &Cursor) -> (u32, u32) {
+        (end.place() - self.bytes.len() as u32, self.size.unwrap_or(0) as u32)
+    }
+
     fn each(&self) -> impl Iterator<Item = &'a [u8]> {
         // Without a size there are no bytes to step over.
         self.bytes.chunks_exact(self.size.unwrap_or(LEAST_RECORD))
@@ -103,6 +118,14 @@ pub struct Runtime {
 impl Runtime {
     /// The fields of a record that is at least as long as the edition's size.
     pub(crate) fn read(record: &[u8], edition: usize) -> Runtime {
+        // Edition 0 has no stage, and no field of it depends on one.
+        let stage = if edition == 0 { 0 } else { u32::from(record[24]) };
+        Runtime::read_as(record, edition, stage)
+    }
+
+    /// The same where the stage that decides which fields are set is told. The one that
+    /// is shown is the record's all the same.
+    pub(crate) fn read_as(record: &[u8], edition: usize, stage: u32) -> Runtime {
         let mut runtime = Runtime::default();
         runtime.stage_info.copy_from_slice(&record[0..16]);
         runtime.minimum_wave_lanes = Some(number4(record, 16));
@@ -112,8 +135,7 @@ impl Runtime {
         }
 
         let byte = |at: usize| Some(u32::from(record[at]));
-        let stage = u32::from(record[24]);
-        runtime.stage = Some(stage);
+        runtime.stage = byte(24);
         runtime.uses_view_id = byte(25);
         if stage == GEOMETRY {
             runtime.max_vertex_count = Some(number2(record, 26));
@@ -189,6 +211,20 @@ pub struct Resource {
     pub flags: Option<u32>,
 }
 
+impl Resource {
+    /// The fields of a record; one that is `long` has a kind and flags.
+    pub(crate) fn read(record: &[u8], long: bool) -> Resource {
+        Resource {
+            resource_type: number4(record, 0),
+            space: number4(record, 4),
+            lower: number4(record, 8),
+            upper: number4(record, 12),
+            kind: long.then(|| number4(record, 16)),
+            flags: long.then(|| number4(record, 20)),
+        }
+    }
+}
+
 /// An element record, spare bits apart.
 #[derive(Clone, Copy, Debug, PartialEq, Eq)]
 pub struct Element {
@@ -210,7 +246,7 @@ pub struct Element {
 }
 
 impl Element {
-    fn read(record: &[u8]) -> Element {
+    pub(crate) fn read(record: &[u8]) -> Element {
         let byte = |at: usize| u32::from(record[at]);
         Element {
             name_offset: number4(record, 0),
@@ -279,6 +315,8 @@ pub struct Opening<'a> {
     pub runtime: Runtime,
     pub handed: Handed<'a>,
     pub layout: Layout,
+    /// Where the sections stand in the bytes that were opened (request 11).
+    pub places: Places,
     resources: Records<'a>,
     later: Option<Later<'a>>,
 }
@@ -294,7 +332,7 @@ pub fn open(bytes: &[u8], edition: usize) -> Result<Opening<'_>, Refusal> {
         _ => return Err(refusal(10)),
     }
     let i = find(&parts, *b"PSV0").ok_or(refusal(11))?;
-    let mut opening = read(parts[i].data(bytes), edition)?;
+    let mut opening = read(parts[i].data(bytes), parts[i].data_at(), edition)?;
     opening.container = bytes;
     opening.parts = parts;
     Ok(opening)
@@ -313,7 +351,7 @@ pub fn open_psv0(data: &[u8], edition: usize) -> Result<Opening<'_>, Refusal> {
     if data.len() > LONGEST {
         return Err(refusal(2));
     }
-    read(data, edition)
+    read(data, 0, edition)
 }
 
 /// Opens PSV0 data alone where no edition is named, as edition 3 (request 5).
@@ -321,15 +359,19 @@ pub fn open_psv0_default(data: &[u8]) -> Result<Opening<'_>, Refusal> {
     open_psv0(data, DEFAULT_EDITION)
 }
 
-/// The sections of PSV0 data in turn: 12 to 24.
-fn read(data: &[u8], edition: usize) -> Result<Opening<'_>, Refusal> {
-    let mut cursor = Cursor { ahead: data };
+/// The sections of PSV0 data in turn: 12 to 24. The data begin at `start` of the bytes
+/// that were opened.
+fn read(data: &[u8], start: usize, edition: usize) -> Result<Opening<'_>, Refusal> {
+    let mut cursor = Cursor { ahead: data, at: start };
+    // What isn't read stays 0.
+    let mut places = Places::default();
 
     // Section 1.
     let size = cursor.number().ok_or(refusal(12))? as usize;
     if size % 4 != 0 || size < EDITION_SIZES[0] {
         return Err(refusal(12));
     }
+    places.runtime = cursor.place();
     let record = cursor.take(size as u64).ok_or(refusal(13))?;
     let mut file_edition = 0;
     while file_edition < NEWEST && EDITION_SIZES[file_edition + 1] <= size {
@@ -338,15 +380,19 @@ fn read(data: &[u8], edition: usize) -> Result<Opening<'_>, Refusal> {
     let edition_read = edition.min(file_edition);
     let record = &record[..EDITION_SIZES[edition_read]];
     let runtime = Runtime::read(record, edition_read);
+    places.edition = edition_read as u32;
+    places.stage = runtime.stage.unwrap_or(0);
 
     // Section 2.
     let count = cursor.number().ok_or(refusal(14))?;
     let resources = cursor.records(count).ok_or(refusal(14))?;
+    (places.resources, places.resource_size) = resources.place_and_size(&cursor);
+    places.resource_count = count;
 
     // Sections 3 to 6.
     let later = match edition_read {
         0 => None,
-        _ => Some(read_later(&mut cursor, &runtime)?),
+        _ => Some(read_later(&mut cursor, &runtime, &mut places)?),
     };
 
     Ok(Opening {
@@ -369,13 +415,18 @@ fn read(data: &[u8], edition: usize) -> Result<Opening<'_>, Refusal> {
             element_size: later.and_then(|later| later.elements.size),
             end: data.len() - cursor.ahead.len(),
         },
+        places,
         resources,
         later,
     })
 }
 
 /// What follows the resources in edition 1 and later: 15 to 24.
-fn read_later<'a>(cursor: &mut Cursor<'a>, runtime: &Runtime) -> Result<Later<'a>, Refusal> {
+fn read_later<'a>(
+    cursor: &mut Cursor<'a>,
+    runtime: &Runtime,
+    places: &mut Places,
+) -> Result<Later<'a>, Refusal> {
     let stage = runtime.stage.unwrap_or(0);
     if stage > LAST_STAGE {
         return Err(refusal(15));
@@ -393,19 +444,27 @@ fn read_later<'a>(cursor: &mut Cursor<'a>, runtime: &Runtime) -> Result<Later<'a
     if length % 4 != 0 {
         return Err(refusal(18));
     }
+    places.strings = cursor.place();
+    places.string_bytes = length;
     let strings = cursor.take(u64::from(length)).ok_or(refusal(18))?;
 
     // Section 4.
     let count = cursor.number().ok_or(refusal(19))?;
+    places.indices = cursor.place();
+    places.index_count = count;
     let indices = cursor.take(4 * u64::from(count)).ok_or(refusal(19))?;
 
     // Section 5.
     let elements = cursor.records(runtime.element_count()).ok_or(refusal(20))?;
+    (places.elements, places.element_size) = elements.place_and_size(cursor);
+    places.element_count = runtime.element_count();
 
     // Section 6.
     let before = cursor.ahead;
+    places.masks = cursor.place();
+    places.mask_words = runtime.mask_words();
     let mut masks: [&[u8]; MASKS] = [&[]; MASKS];
-    for (mask, words) in masks.iter_mut().zip(runtime.mask_words()) {
+    for (mask, words) in masks.iter_mut().zip(places.mask_words) {
         *mask = cursor.take(4 * u64::from(words)).ok_or(refusal(21))?;
     }
     let all_masks = &before[..before.len() - cursor.ahead.len()];
@@ -438,7 +497,7 @@ fn read_later<'a>(cursor: &mut Cursor<'a>, runtime: &Runtime) -> Result<Later<'a
 /// points at the first index. So: good when i plus rows is at most N; rows 0
 /// gives an empty array and i may equal N." The judging and the queries both
 /// come here, and the writer through the judging.
-fn array_of<'a>(indices: &'a [u8], element: &Element) -> Option<&'a [u8]> {
+pub(crate) fn array_of<'a>(indices: &'a [u8], element: &Element) -> Option<&'a [u8]> {
     let n = (indices.len() / 4) as u64;
     // 32-bit numbers held in 64 bits, so the sum is exact.
     let i = u64::from(element.index_reference);
@@ -490,14 +549,7 @@ impl<'a> Opening<'a> {
     pub fn resource(&self, i: usize) -> Result<Resource, Refusal> {
         let record = self.resources.get(i).ok_or(refusal(26))?;
         let long = record.len() >= LONG_RESOURCE && self.edition_read >= 2;
-        Ok(Resource {
-            resource_type: number4(record, 0),
-            space: number4(record, 4),
-            lower: number4(record, 8),
-            upper: number4(record, 12),
-            kind: long.then(|| number4(record, 16)),
-            flags: long.then(|| number4(record, 20)),
-        })
+        Ok(Resource::read(record, long))
     }
 
     /// An element record, numbered over all E.

@@ -21,7 +21,7 @@ pub fn may_repeat(name: [u8; 4]) -> bool {
 }
 
 /// The length of the header; the offset table follows it.
-const HEADER: usize = 32;
+pub(crate) const HEADER: usize = 32;
 
 /// The length of a part header; the data follow it.
 const PART_HEADER: usize = 8;
@@ -41,14 +41,19 @@ pub struct Part {
 }
 
 impl Part {
+    /// Where the part's data begin.
+    pub(crate) fn data_at(&self) -> usize {
+        self.offset + PART_HEADER
+    }
+
     /// Where the part's data end.
     pub fn end(&self) -> usize {
-        self.offset + PART_HEADER + self.size
+        self.data_at() + self.size
     }
 
     /// The part's data within the container it was read from.
     pub fn data<'a>(&self, container: &'a [u8]) -> &'a [u8] {
-        &container[self.offset + PART_HEADER..self.end()]
+        &container[self.data_at()..self.end()]
     }
 }
 

@@ -1,9 +1,10 @@
+use Rattle.assembler_layout.specs.Assembled.{startOf}
 use Rattle.assembler_layout.specs.Answer.{sized, frontBytes}
 use mathlib.Core.Path.{refl, _∙_}
 use native.Mathlib.Omega.{arith}
 use lib.ListN.{length}
 use Rattle.wire.proofs.Stretches.{none-written, written-more, all-written}
-use Rattle.assembler_layout.proofs.Lengths.{offsets-length}
+use Rattle.part_table_layout.proofs.Laid.{offsets-length}
 use Rattle.assembler_layout.proofs.Sections.{header-length, table-inside}
 use borrow.Author.Needs.{needs}
 use Rattle.assembler.proofs.write_front.Statement.{statement}
@@ -24,7 +25,7 @@ returns c =
     let g = sized (s .args .sizes .now) in
     let room = s .pre .0 in
     let w1 = written-more (none-written (s .args .out .now)) 32 (omega arith) _ (p1 .write-header .ensures) (header-length _ _ _ (s .pre .1 .0)) in
-    let w2 = written-more w1 (length (s .args .out .now)) (omega arith) _ (p2 .write-offsets .ensures) (offsets-length g 0 _ ∙ omega arith) in
+    let w2 = written-more w1 (length (s .args .out .now)) (omega arith) _ (p2 .write-offsets .ensures) (offsets-length (startOf g) 0 _ ∙ omega arith) in
     all-written w2 refl
 
 pub write-front-spec : {M : Type 1} → statement M

@@ -3,6 +3,7 @@ use mathlib.Core.Path.{_≡_, refl}
 use native.Mathlib.Omega.{arith}
 use borrow.Author.Needs.{needs}
 use Rattle.wire.proofs.Stretches.{Written, none-written, written-length}
+use Rattle.part_table_layout.specs.Table.{offsetBytes}
 use Rattle.assembler_layout.specs.Assembled.{endBefore, offsetsFrom}
 use Rattle.assembler_layout.specs.Answer.{sized}
 use Rattle.assembler_layout.proofs.Sections.{StartFits, start-fits, end-next, offset-more, all-offsets}
@@ -22,7 +23,7 @@ fits c =
     start-fits (sized _) (c .before .before .before .before .pre .1) (c .loop-test .taken) (l .inv .1 .0)
 
 loop-holds : tie.Need-loop-holds Inv-loop μ-loop
-unfolding endBefore offsetsFrom
+unfolding endBefore offsetBytes
 loop-holds c = (search needs, (refl, none-written _))
 
 round-up-requires : tie.Need-round-up-requires Inv-loop μ-loop

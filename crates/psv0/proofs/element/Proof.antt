@@ -1,35 +1,43 @@
-use Rattle.psv0.proofs.Openings.{reading, element-accepted, element-refused}
 use mathlib.Core.Path.{_∙_}
+use Rattle.psv0.proofs.Openings.{element-accepted, element-refused}
 use borrow.Author.Needs.{needs}
 use Rattle.psv0.proofs.element.Statement.{statement}
 use Rattle.psv0.proofs.element.Tie as tie
+use Rattle.psv0.proofs.element.Reads as reads
+use Rattle.psv0.proofs.element.Lts as lts
+use Rattle.places.proofs.element.Reads as element-reads
+use Rattle.places.proofs.refused_element.Reads as refused-element-reads
+use Rattle.psv0.proofs.open_places.Reads as open-places-reads
+
+open-places-requires : tie.Need-open-places-requires
+open-places-requires c κs = search needs
+
+enum-known-v : tie.Need-enum-known-v
+enum-known-v c = search needs
+
+refused-element-requires : tie.Need-refused-element-requires
+refused-element-requires c κs = search needs
 
 returns : tie.Need-returns
-returns c =
-    let s = c .before .before .before .before .before .before in
-    let l = c .before .before .before .before .locate in
-    element-refused (s .args .edition) (s .args .d .now) (l .result) (l .ensures) _ _ (c .before .before .v .given .1) (s .args .i) (c .refused-element .result) (c .refused-element .ensures)
+returns c = element-refused (c .before .before .before .before .before .before .args .edition) (c .before .before .before .before .before .before .args .d .now) (c .before .before .before .before .open-places .result) (c .before .before .before .before .open-places .ensures) _ _ (c .before .before .v .given .1) (c .before .before .before .before .before .before .args .i) (c .refused-element .result) (c .refused-element .ensures)
 
-element-in-requires : tie.Need-element-in-requires
-element-in-requires c κs =
-    let s = c .before .before .before .before .before in
-    let l = c .before .before .before .locate in
-    reading (s .args .edition) (s .args .d .now) (l .result) (l .ensures) (c .before .enum-told .given .1)
+enum-told : tie.Need-enum-told
+enum-told c = search needs
+
+element-requires : tie.Need-element-requires
+element-requires c κs = search needs
 
 returns-2 : tie.Need-returns-2
-returns-2 c =
-    let s = c .before .before .before .before .before .before in
-    let l = c .before .before .before .before .locate in
-    c .element-in .ensures ∙ element-accepted (s .args .edition) (s .args .d .now) (l .result) (l .ensures) (c .before .before .enum-told .given .1) (s .args .i)
+returns-2 c = c .element .ensures ∙ element-accepted (c .before .before .before .before .before .before .args .edition) (c .before .before .before .before .before .before .args .d .now) (c .before .before .before .before .open-places .result) (c .before .before .before .before .open-places .ensures) (c .before .before .enum-told .given .1) (c .before .before .before .before .before .before .args .i)
 
 pub element-spec : {M : Type 1} → statement M
 element-spec =
     tie.close
     (tie.spec
-    (λ c κs. search needs)
-    (λ c. search needs)
-    (λ c κs. search needs)
+    open-places-requires
+    enum-known-v
+    refused-element-requires
     returns
-    (λ c. search needs)
-    element-in-requires
+    enum-told
+    element-requires
     returns-2)

@@ -1,36 +1,43 @@
-use Rattle.psv0.proofs.Queries.{lengths-short, lengths-read}
-use Rattle.psv0.proofs.Openings.{reading, lengths-accepted, lengths-refused}
 use mathlib.Core.Path.{_∙_}
+use Rattle.psv0.proofs.Openings.{lengths-accepted, lengths-refused}
 use borrow.Author.Needs.{needs}
 use Rattle.psv0.proofs.lengths.Statement.{statement}
 use Rattle.psv0.proofs.lengths.Tie as tie
+use Rattle.psv0.proofs.lengths.Reads as reads
+use Rattle.psv0.proofs.lengths.Lts as lts
+use Rattle.places.proofs.lengths.Reads as lengths-reads
+use Rattle.places.proofs.refused_lengths.Reads as refused-lengths-reads
+use Rattle.psv0.proofs.open_places.Reads as open-places-reads
+
+open-places-requires : tie.Need-open-places-requires
+open-places-requires c κs = search needs
+
+enum-known-v : tie.Need-enum-known-v
+enum-known-v c = search needs
+
+refused-lengths-requires : tie.Need-refused-lengths-requires
+refused-lengths-requires c κs = search needs
 
 returns : tie.Need-returns
-returns c =
-    let s = c .before .before .before .before .before .before in
-    let l = c .before .before .before .before .locate in
-    lengths-refused (s .args .edition) (s .args .d .now) (l .result) (l .ensures) _ _ (c .before .before .v .given .1) (c .refused-lengths .result) (c .refused-lengths .ensures)
+returns c = lengths-refused (c .before .before .before .before .before .before .args .edition) (c .before .before .before .before .before .before .args .d .now) (c .before .before .before .before .open-places .result) (c .before .before .before .before .open-places .ensures) _ _ (c .before .before .v .given .1) (c .refused-lengths .result) (c .refused-lengths .ensures)
 
-lengths-at-requires : tie.Need-lengths-at-requires
-lengths-at-requires c κs =
-    let s = c .before .before .before .before .before in
-    let l = c .before .before .before .locate in
-    lengths-short (reading (s .args .edition) (s .args .d .now) (l .result) (l .ensures) (c .before .enum-told .given .1))
+enum-told : tie.Need-enum-told
+enum-told c = search needs
+
+lengths-requires : tie.Need-lengths-requires
+lengths-requires c κs = search needs
 
 returns-2 : tie.Need-returns-2
-returns-2 c =
-    let s = c .before .before .before .before .before .before in
-    let l = c .before .before .before .before .locate in
-    lengths-accepted (s .args .edition) (s .args .d .now) (l .result) (l .ensures) (c .before .before .enum-told .given .1) (c .lengths-at .result) (c .lengths-at .ensures ∙ lengths-read (reading (s .args .edition) (s .args .d .now) (l .result) (l .ensures) (c .before .before .enum-told .given .1)))
+returns-2 c = c .lengths .ensures ∙ lengths-accepted (c .before .before .before .before .before .before .args .edition) (c .before .before .before .before .before .before .args .d .now) (c .before .before .before .before .open-places .result) (c .before .before .before .before .open-places .ensures) (c .before .before .enum-told .given .1)
 
 pub lengths-spec : {M : Type 1} → statement M
 lengths-spec =
     tie.close
     (tie.spec
-    (λ c κs. search needs)
-    (λ c. search needs)
-    (λ c κs. search needs)
+    open-places-requires
+    enum-known-v
+    refused-lengths-requires
     returns
-    (λ c. search needs)
-    lengths-at-requires
+    enum-told
+    lengths-requires
     returns-2)

@@ -1,35 +1,43 @@
-use Rattle.psv0.proofs.Openings.{reading, resource-accepted, resource-refused}
 use mathlib.Core.Path.{_∙_}
+use Rattle.psv0.proofs.Openings.{resource-accepted, resource-refused}
 use borrow.Author.Needs.{needs}
 use Rattle.psv0.proofs.resource.Statement.{statement}
 use Rattle.psv0.proofs.resource.Tie as tie
+use Rattle.psv0.proofs.resource.Reads as reads
+use Rattle.psv0.proofs.resource.Lts as lts
+use Rattle.places.proofs.refused_resource.Reads as refused-resource-reads
+use Rattle.places.proofs.resource.Reads as resource-reads
+use Rattle.psv0.proofs.open_places.Reads as open-places-reads
+
+open-places-requires : tie.Need-open-places-requires
+open-places-requires c κs = search needs
+
+enum-known-v : tie.Need-enum-known-v
+enum-known-v c = search needs
+
+refused-resource-requires : tie.Need-refused-resource-requires
+refused-resource-requires c κs = search needs
 
 returns : tie.Need-returns
-returns c =
-    let s = c .before .before .before .before .before .before in
-    let l = c .before .before .before .before .locate in
-    resource-refused (s .args .edition) (s .args .d .now) (l .result) (l .ensures) _ _ (c .before .before .v .given .1) (s .args .i) (c .refused-resource .result) (c .refused-resource .ensures)
+returns c = resource-refused (c .before .before .before .before .before .before .args .edition) (c .before .before .before .before .before .before .args .d .now) (c .before .before .before .before .open-places .result) (c .before .before .before .before .open-places .ensures) _ _ (c .before .before .v .given .1) (c .before .before .before .before .before .before .args .i) (c .refused-resource .result) (c .refused-resource .ensures)
 
-resource-in-requires : tie.Need-resource-in-requires
-resource-in-requires c κs =
-    let s = c .before .before .before .before .before in
-    let l = c .before .before .before .locate in
-    reading (s .args .edition) (s .args .d .now) (l .result) (l .ensures) (c .before .enum-told .given .1)
+enum-told : tie.Need-enum-told
+enum-told c = search needs
+
+resource-requires : tie.Need-resource-requires
+resource-requires c κs = search needs
 
 returns-2 : tie.Need-returns-2
-returns-2 c =
-    let s = c .before .before .before .before .before .before in
-    let l = c .before .before .before .before .locate in
-    c .resource-in .ensures ∙ resource-accepted (s .args .edition) (s .args .d .now) (l .result) (l .ensures) (c .before .before .enum-told .given .1) (s .args .i)
+returns-2 c = c .resource .ensures ∙ resource-accepted (c .before .before .before .before .before .before .args .edition) (c .before .before .before .before .before .before .args .d .now) (c .before .before .before .before .open-places .result) (c .before .before .before .before .open-places .ensures) (c .before .before .enum-told .given .1) (c .before .before .before .before .before .before .args .i)
 
 pub resource-spec : {M : Type 1} → statement M
 resource-spec =
     tie.close
     (tie.spec
-    (λ c κs. search needs)
-    (λ c. search needs)
-    (λ c κs. search needs)
+    open-places-requires
+    enum-known-v
+    refused-resource-requires
     returns
-    (λ c. search needs)
-    resource-in-requires
+    enum-told
+    resource-requires
     returns-2)

@@ -1,34 +1,42 @@
-use Rattle.psv0.proofs.Openings.{reading, span-accepted, span-refused}
+use Rattle.psv0.proofs.Openings.{span-accepted, span-refused}
 use borrow.Author.Needs.{needs}
 use Rattle.psv0.proofs.view_span.Statement.{statement}
 use Rattle.psv0.proofs.view_span.Tie as tie
+use Rattle.psv0.proofs.view_span.Reads as reads
+use Rattle.psv0.proofs.view_span.Lts as lts
+use Rattle.places.proofs.refused_span.Reads as refused-span-reads
+use Rattle.places.proofs.view_span.Reads as view-span-reads
+use Rattle.psv0.proofs.open_places.Reads as open-places-reads
+
+open-places-requires : tie.Need-open-places-requires
+open-places-requires c κs = search needs
+
+enum-known-v : tie.Need-enum-known-v
+enum-known-v c = search needs
+
+refused-span-requires : tie.Need-refused-span-requires
+refused-span-requires c κs = search needs
 
 returns : tie.Need-returns
-returns c =
-    let s = c .before .before .before .before .before .before in
-    let l = c .before .before .before .before .locate in
-    span-refused (s .args .edition) (s .args .d .now) (l .result) (l .ensures) _ _ (c .before .before .v .given .1) (s .args .view) (c .refused-span .result) (c .refused-span .ensures)
+returns c = span-refused (c .before .before .before .before .before .before .args .edition) (c .before .before .before .before .before .before .args .d .now) (c .before .before .before .before .open-places .result) (c .before .before .before .before .open-places .ensures) _ _ (c .before .before .v .given .1) (c .before .before .before .before .before .before .args .view) (c .refused-span .result) (c .refused-span .ensures)
 
-view-in-requires : tie.Need-view-in-requires
-view-in-requires c κs =
-    let s = c .before .before .before .before .before in
-    let l = c .before .before .before .locate in
-    reading (s .args .edition) (s .args .d .now) (l .result) (l .ensures) (c .before .enum-told .given .1)
+enum-told : tie.Need-enum-told
+enum-told c = search needs
+
+view-span-requires : tie.Need-view-span-requires
+view-span-requires c κs = search needs
 
 returns-2 : tie.Need-returns-2
-returns-2 c =
-    let s = c .before .before .before .before .before .before in
-    let l = c .before .before .before .before .locate in
-    span-accepted (s .args .edition) (s .args .d .now) (l .result) (l .ensures) (c .before .before .enum-told .given .1) (s .args .view) (c .view-in .result) (c .view-in .ensures)
+returns-2 c = span-accepted (c .before .before .before .before .before .before .args .edition) (c .before .before .before .before .before .before .args .d .now) (c .before .before .before .before .open-places .result) (c .before .before .before .before .open-places .ensures) (c .before .before .enum-told .given .1) (c .before .before .before .before .before .before .args .view) (c .view-span .result) (c .view-span .ensures)
 
 pub view-span-spec : {M : Type 1} → statement M
 view-span-spec =
     tie.close
     (tie.spec
-    (λ c κs. search needs)
-    (λ c. search needs)
-    (λ c κs. search needs)
+    open-places-requires
+    enum-known-v
+    refused-span-requires
     returns
-    (λ c. search needs)
-    view-in-requires
+    enum-told
+    view-span-requires
     returns-2)

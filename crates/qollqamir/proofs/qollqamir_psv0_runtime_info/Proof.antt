@@ -1,20 +1,15 @@
-use mathlib.Core.Path.{_∙_, ap}
-use Rattle.psv0_layout.specs.Judged.{opened}
-use Rattle.psv0_layout.specs.Shown.{shown, answered}
-use Rattle.psv0_layout.proofs.Answered.{info-hidden}
-use Rattle.qollqamir.specs.Boundary.{cInfo}
+use mathlib.Core.Path.{_∙_, ap, refl}
+use Rattle.psv0.proofs.Openings.{info-accepted, info-refused}
 use borrow.Author.Needs.{needs}
+use Rattle.qollqamir.specs.Boundary.{cInfo}
 use Rattle.qollqamir.proofs.qollqamir_psv0_runtime_info.Statement.{statement}
 use Rattle.qollqamir.proofs.qollqamir_psv0_runtime_info.Tie as tie
 
 returns : tie.Need-returns
-unfolding answered
-returns c =
-    let s = c .before .before .before .before .before .before .args in
-    c .no-info .ensures ∙ ap cInfo (info-hidden (opened (s .edition) (s .d .now)) (shown (s .edition) (s .d .now)) (c .before .before .before .before .runtime-info .ensures) (c .before .before .v .given .1))
+returns c = c .no-info .ensures ∙ ap cInfo (info-refused _ _ _ (c .before .before .before .before .open-places .ensures) _ _ (c .before .before .v .given .1) _ refl)
 
 returns-2 : tie.Need-returns-2
-returns-2 c = c .c-info .ensures ∙ ap cInfo (c .before .before .before .runtime-info .ensures)
+returns-2 c = c .qollqamir-places-runtime-info .ensures ∙ ap cInfo (info-accepted _ _ _ (c .before .before .before .before .open-places .ensures) (c .before .before .enum-told .given .1))
 
 pub qollqamir-psv0-runtime-info-spec : {M : Type 1} → statement M
 qollqamir-psv0-runtime-info-spec =

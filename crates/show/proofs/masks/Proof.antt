@@ -4,10 +4,10 @@ use Rattle.show.proofs.masks.Statement.{statement}
 use Rattle.show.proofs.masks.Tie as tie
 
 abbrev Inv-loop : tie.InvT-loop
-Inv-loop b edition m₀ m = m ≤ 11
+Inv-loop b p m₀ m = m ≤ 11
 
 abbrev μ-loop : tie.MeasureT-loop
-μ-loop b edition m₀ m = 11 - m
+μ-loop b p m₀ m = 11 - m
 
 pub masks-spec : {M : Type 1} → statement M
 masks-spec =

@@ -1,0 +1,11 @@
+pub mod Answering
+pub mod Any
+pub mod Boxes
+pub mod Calls
+pub mod Fresh
+pub mod Handing
+pub mod Holding
+pub mod Moving
+pub mod Placing
+pub mod Standing
+pub mod Views

@@ -1,0 +1,5 @@
+pub mod Answers
+pub mod Handed
+pub mod Parts
+pub mod Placed
+pub mod Read

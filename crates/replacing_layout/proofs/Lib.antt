@@ -1,0 +1,11 @@
+pub mod Again
+pub mod Boxes
+pub mod Checks
+pub mod Containers
+pub mod Measuring
+pub mod Places
+pub mod Stretches
+pub mod Tables
+pub mod Writing
+pub mod Plain
+pub mod Replacing
