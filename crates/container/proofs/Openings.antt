@@ -21,8 +21,10 @@ use Rattle.part_table_layout.specs.declared.ThreeParts.{ThreeParts}
 use Rattle.part_table_layout.proofs.Accepted.{part-inside, accepted-told}
 use Rattle.part_table_layout.proofs.Lookups.{find-told, first-occurrence}
 use Rattle.part_table_layout.proofs.Threes.{three-verdict, three-first, three-second, three-count}
-use Rattle.container_layout.specs.Container.{dxil, psv0, isThere, startFound, sizeFound, beforePsv}
-use Rattle.container.specs.Opened.{psvPartOf}
+use Rattle.container_layout.specs.Container.{dxil, psv0, isThere, startFound, sizeFound, beforePsv, containerJudged}
+use Rattle.container_layout.specs.Placed.{containerPlaces}
+use Rattle.container.specs.Opened.{psvPartOf, containerPlacesOf}
+use Rattle.container.specs.declared.ContainerPlaces.{ContainerPlaces}
 use Rattle.container.specs.declared.PsvPart.{PsvPart}
 
 -- what is checked before the PSV0 data refuses: no part is shown
@@ -126,3 +128,8 @@ module _ (k : ℕ) (b : List ℕ) (y : ℕ) {t : ThreeParts} (ht : t ≡ threeOf
             let s = start-is (find b psv0) hv in
             let z : p .size ≡ sizeFound b (find b psv0) = ap (λ (q : Part). q .size) hv ∙ size-is (find b psv0) in
             rw (j, n, s, z)
+
+-- an opening that accepts hands back the container's places
+pub places-are : (k : ℕ) (b : List ℕ) {o : ContainerPlaces} → o ≡ containerPlacesOf k b → containerJudged k b ≡ Accepted → o .places ≡ containerPlaces k b
+unfolding containerPlacesOf
+places-are k b e h = ap (λ (q : ContainerPlaces). q .places) e ∙ rw h

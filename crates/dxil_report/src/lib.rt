@@ -9,7 +9,7 @@ ghost use mathlib.Core.List.{[]};
 ghost use Rattle.dxil_report_layout.specs.Reported.{stagesOf, reportIf, programReportOf, bitcodeReported};
 
 // The header's stage beside PSV0's, compared as numbers.
-fn compared(stage: u32, other: Field) -> Stages
+pub fn compared(stage: u32, other: Field) -> Stages
     ensures { λ r. ⌜ r ≡ stagesOf stage other ⌝ }
 {
     match other {

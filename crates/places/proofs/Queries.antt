@@ -1,11 +1,10 @@
 -- The queries by a record, from what the code finds: where it looked, how many bytes, and what it made of them.
 -- Assumes nothing.
 use Prim.Native.Nat.{ℕ, _+_, _-_, _*_, _≤_, _<_}
-use mathlib.Core.Path.{_≡_, refl, sym, _∙_, ap}
+use mathlib.Core.Path.{_≡_, sym, _∙_}
 use mathlib.Core.Bool.{Bool, true, false, _&&_}
 use mathlib.Core.List.{List}
 use native.Mathlib.Omega.{arith}
-use native.Mathlib.Nat.{le-trans}
 use lib.Dec.{leb}
 use lib.ListN.{length, take, drop, length-drop}
 use lib.Seq.{length-take-le}
@@ -14,11 +13,9 @@ use Rattle.constants.specs.Edition.{sizeOf}
 use Rattle.constants.proofs.Editions.{size-mono}
 use Rattle.wire.specs.Choice.{choose}
 use Rattle.wire.specs.declared.Verdict.the-variants.{Accepted}
-use Rattle.utf8_layout.specs.Sequence.{wellFormed, codePoints}
 use Rattle.psv0_layout.specs.Answers.{infoOf, resourceOf, elementOf, refusedInfo, refusedResource, refusedElement, refusedSpan}
 use Rattle.psv0_layout.specs.Layout.{resourceWidth}
 use Rattle.psv0_layout.specs.Parts.{resourceShown, elementShown, acceptedSpan}
-use Rattle.psv0_layout.specs.Reference.{stringGood, stringAt}
 use Rattle.psv0_layout.specs.declared.ElementAnswer.{ElementAnswer}
 use Rattle.psv0_layout.specs.declared.ElementRecord.{ElementRecord}
 use Rattle.psv0_layout.specs.declared.InfoAnswer.{InfoAnswer}
@@ -26,6 +23,9 @@ use Rattle.psv0_layout.specs.declared.Points.the-variants.{Count}
 use Rattle.psv0_layout.specs.declared.ResourceAnswer.{ResourceAnswer}
 use Rattle.psv0_layout.specs.declared.ResourceRecord.{ResourceRecord}
 use Rattle.psv0_layout.specs.declared.RuntimeInfo.{RuntimeInfo}
+use Rattle.utf8.specs.One.{readOf}
+use Rattle.utf8.specs.declared.StringRead.the-variants.{Good, Ill}
+use Rattle.utf8.proofs.One.{told-good, told-ill}
 use Rattle.places_layout.specs.Answers.{infoBy, resourceBy, elementBy}
 use Rattle.places_layout.specs.Parts.{ofRuntime, StringShows}
 use Rattle.places_layout.specs.declared.SectionPlaces.{SectionPlaces}
@@ -88,20 +88,21 @@ module _ (b : List ℕ) (at n o : ℕ) where
   abbrev table : List ℕ
   table = take (at + n - at) (drop at b)
 
-  module _ (m : ℕ) (h : at + n ≤ length b) (g : stringGood table o ≡ true) (e : m ≡ length (stringAt table o)) where
-    pub name-fits : (o + m ≤ length table) × (at + o + m ≤ length b)
+  module _ (m c : ℕ) (h : at + n ≤ length b) (e : readOf table o ≡ Good m c) where
+    pub name-fits : at + o + m ≤ length b
     name-fits =
-        let q = slice-size at n in
-        let (i, j) = string-fits b at n o m h (rw q at g) (rw q at e) in
-        (rw q i, j)
+        let (g, l, q) = told-good (take n (drop at b)) o m c (rw (slice-size at n) at e) in
+        string-fits b at n o m h g l
 
-    pub name-found : (c : ℕ) → leb (at + n) (length b) ≡ true
-        → (wellFormed (take (o + m - o) (drop o table)) ≡ true → c ≡ codePoints (take (o + m - o) (drop o table)))
-        → StringShows b at n o (acceptedSpan (at + o) m (Count c))
-    name-found c t f = let q = slice-size at n in string-found b at n o m c t h (rw q at g) (rw q at e) (rw (q, slice-size o m) at f)
+    pub name-found : leb (at + n) (length b) ≡ true → StringShows b at n o (acceptedSpan (at + o) m (Count c))
+    name-found t =
+        let (g, l, q) = told-good (take n (drop at b)) o m c (rw (slice-size at n) at e) in
+        string-found b at n o m c t h g l q
 
-  pub name-ill : leb (at + n) (length b) ≡ true → stringGood table o ≡ false → StringShows b at n o (refusedSpan 29 0)
-  name-ill t g = let q = slice-size at n in let f : stringGood (take n (drop at b)) o ≡ false = rw q at g in no-string b at n o (rw (t, f))
+  pub name-ill : leb (at + n) (length b) ≡ true → readOf table o ≡ Ill → StringShows b at n o (refusedSpan 29 0)
+  name-ill t e =
+      let g = told-ill (take n (drop at b)) o (rw (slice-size at n) at e) in
+      no-string b at n o (rw (t, g))
 
   pub name-outside : leb (at + n) (length b) ≡ false → StringShows b at n o (refusedSpan 29 0)
   name-outside t = no-string b at n o (rw t)

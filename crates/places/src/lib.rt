@@ -14,6 +14,7 @@ use psv0_layout::RuntimeInfo;
 use psv0_layout::Section;
 use psv0_layout::Span;
 use psv0_layout::View;
+use utf8::StringRead;
 use wire::Verdict;
 ghost use mathlib.Core.Path.{_≡_};
 ghost use mathlib.Core.Bool.{_||_};
@@ -447,11 +448,8 @@ fn string(b: &[u8], start: usize, n: usize, o: usize) -> Span
 {
     if inside(b, start, n) {
         let end = start + n;
-        let t = &b[start..end];
-        if utf8::is_good(t, o) {
-            let len = strings::len_at(t, o);
-            let to = o + len;
-            let points = utf8::code_points(&t[o..to]);
+        let r = utf8::read_string(&b[start..end], o);
+        if let StringRead::Good(len, points) = r {
             return accepted_span(start + o, len, Points::Count(points));
         }
         return refused_span(29, 0);

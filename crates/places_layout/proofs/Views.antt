@@ -1,28 +1,28 @@
 -- Views, lengths and the bytes of sections by a record, from what the code looks at. Of any record and any bytes.
 -- Assumes nothing.
-use Prim.Native.Nat.{ℕ, zero, suc, _+_, _*_, _≤_, _<_}
+use Prim.Native.Nat.{ℕ, _+_, _*_, _≤_, _<_}
 use mathlib.Core.Path.{_≡_, refl, sym, _∙_, ap}
 use mathlib.Core.Bool.{Bool, true, false, _&&_}
 use mathlib.Core.List.{List, []}
 use mathlib.Core.Logic.{_⊎_, ⊎-elim}
 use native.Mathlib.Omega.{arith}
 use native.Mathlib.Nat.{add-zero}
-use lib.Dec.{leb, ltb}
+use lib.Dec.{leb}
 use lib.ListN.{length, getD, take, drop}
 use lib.Seq.{take-take}
 use borrow.Author.Tests.{le-leb, lt-leb, lt-ltb, le-ltb}
 use Rattle.constants.specs.Edition.{sizeOf}
 use Rattle.constants.proofs.Editions.{size-last}
-use Rattle.utf8_layout.specs.Sequence.{wellFormed, codePoints}
+use Rattle.utf8_layout.specs.Sequence.{codePoints}
 use Rattle.wire.specs.Choice.{choose}
 use Rattle.wire.specs.Number.{u32At}
 use Rattle.wire.specs.Verdict.{check}
-use Rattle.wire.specs.declared.Verdict.the-variants.{Accepted, Refused}
-use Rattle.psv0_layout.specs.Answers.{fieldOf, bytesOf, lengthsOf, pointsIn, pointsOf, questionOf, sectionOf, refusedSpan, SpanShows}
+use Rattle.wire.specs.declared.Verdict.the-variants.{Accepted}
+use Rattle.psv0_layout.specs.Answers.{fieldOf, bytesOf, lengthsOf, pointsIn, pointsOf, questionOf, refusedSpan, SpanShows}
 use Rattle.psv0_layout.specs.Field.{sum, nameOffset, indexReference, rowCount}
 use Rattle.psv0_layout.specs.Parts.{acceptedSpan}
 use Rattle.psv0_layout.specs.Reference.{stringGood, stringAt, indexGood, indexTotal, arrayAt}
-use Rattle.psv0_layout.specs.Shown.{Value, unset, number, view, Question, stageUnion, elementString, elementPoints, elementArray, mask, entryName, entryPoints, resourceCount, stringBytes, indexCount, elementCount, needs, setIf, value}
+use Rattle.psv0_layout.specs.Shown.{number, view, Question, stageUnion, elementString, elementPoints, elementArray, mask, entryName, entryPoints, resourceCount, stringBytes, indexCount, elementCount, needs, setIf, value}
 use Rattle.psv0_layout.specs.declared.LengthsAnswer.{LengthsAnswer}
 use Rattle.psv0_layout.specs.declared.ListLengths.{ListLengths}
 use Rattle.psv0_layout.specs.declared.Points.{Points}
@@ -31,10 +31,9 @@ use Rattle.psv0_layout.specs.declared.Span.{Span}
 use Rattle.psv0_layout.specs.declared.View.{View}
 use Rattle.psv0_layout.specs.declared.View.the-variants.{StageUnion, ElementString, ElementArray, EntryName, Mask}
 use Rattle.psv0_layout.proofs.Positions.{part-byte, part-u32}
-use Rattle.psv0_layout.proofs.References.{good-parts, string-inside, string-is}
-use Rattle.psv0_layout.proofs.Spans.{refused-shows, whole-shows, part-shows, stretch-length, string-shows, array-shows}
+use Rattle.psv0_layout.proofs.References.{string-inside, string-is}
+use Rattle.psv0_layout.proofs.Spans.{refused-shows, whole-shows, stretch-length, string-shows, array-shows}
 use Rattle.places_layout.specs.Answers.{shownBy, lengthsBy, ViewBy}
-use Rattle.places_layout.specs.Handed.{laterBy, stretchIn}
 use Rattle.places_layout.specs.Parts.{StretchShows, TestShows, StringShows, ArrayShows}
 use Rattle.places_layout.specs.Read.{bodyBy, seenBy, Source, aLength, sourceOf, isThere, readable, valueBy, Answer, given, refusal, answeredFrom, answeredBy}
 use Rattle.places_layout.specs.declared.SectionPlaces.{SectionPlaces}
@@ -51,23 +50,21 @@ module _ (b : List ℕ) (at n : ℕ) where
 
   -- the string at a good reference o into the table, and one that isn't good
   pub string-found : (o m c : ℕ) → leb (at + n) (length b) ≡ true → at + n ≤ length b → stringGood (take n (drop at b)) o ≡ true
-      → m ≡ length (stringAt (take n (drop at b)) o)
-      → (wellFormed (take m (drop o (take n (drop at b)))) ≡ true → c ≡ codePoints (take m (drop o (take n (drop at b)))))
+      → m ≡ length (stringAt (take n (drop at b)) o) → c ≡ codePoints (stringAt (take n (drop at b)) o)
       → StringShows b at n o (acceptedSpan (at + o) m (Count c))
   unfolding check
-  string-found o m c t h g e f =
+  string-found o m c t h g e q =
       let table = take n (drop at b) in
       let (i, r) = string-is table o m e (omega (arith, string-inside table o g)) in
-      let q : c ≡ codePoints (stringAt table o) = (rw (← r) at f) (good-parts table o g .1) in
       rw (t, g, q) (string-shows b table at n refl h o m (Count (codePoints (stringAt table o))) i r)
 
   pub string-fits : (o m : ℕ) → at + n ≤ length b → stringGood (take n (drop at b)) o ≡ true → m ≡ length (stringAt (take n (drop at b)) o)
-      → (o + m ≤ length (take n (drop at b))) × (at + o + m ≤ length b)
+      → at + o + m ≤ length b
   string-fits o m h g e =
       let table = take n (drop at b) in
       let (i, r) = string-is table o m e (omega (arith, string-inside table o g)) in
       let l = stretch-length b table at n refl h in
-      (i, omega arith)
+      omega arith
 
   pub no-string : (o : ℕ) → (leb (at + n) (length b) && stringGood (take n (drop at b)) o) ≡ false → StringShows b at n o (refusedSpan 29 0)
   unfolding check

@@ -2,6 +2,8 @@
 use arguments::Contents;
 use dxil_report_layout::Stages;
 use part_table_layout::Found;
+use part_table_layout::Part;
+use part_table_layout::Table;
 use places_layout::SectionPlaces;
 use printing::number;
 use printing::text;
@@ -15,6 +17,11 @@ use signature_layout::Name;
 use signature_report_layout::SignaturePart;
 use wire::Verdict;
 use words::Named;
+ghost use mathlib.Core.Path.{_≡_};
+ghost use Prim.Native.Nat.{_+_, _≤_};
+ghost use lib.ListN.{length};
+ghost use Rattle.wire.specs.declared.Verdict.the-variants.{Accepted};
+ghost use Rattle.part_table_layout.specs.Table.{tableOf};
 
 // ---- bytes and values
 
@@ -123,8 +130,7 @@ fn part(i: usize, x: u32, offset: u32, size: u32, occurrence: u32, gap: u32) {
     text(b"\n");
 }
 
-fn parts(b: &[u8]) {
-    let t = part_table::read(b);
+fn parts(t: Table) {
     let n = t.count;
     text(b"parts ");
     number(n);
@@ -142,6 +148,31 @@ fn parts(b: &[u8]) {
             );
         }
         i += 1;
+    }
+}
+
+// The first part with a name, in the table t of the bytes b.
+fn part_of(b: &[u8], t: Table, name: &[u8; 4]) -> Part
+    requires { ⌜ t ≡ tableOf (now b) ⌝ }
+    ensures { λ r. ⌜ (r .verdict ≡ Accepted → r .offset + 8 + r .size ≤ length (now (b .entry))) ⌝ }
+{
+    part_table::part_in(t, name, 0)
+}
+
+// Its data; none beside a refusal.
+fn data<'a>(b: &'a [u8], part: Part) -> &'a [u8]
+    requires { ⌜ (part .verdict ≡ Accepted → part .offset + 8 + part .size ≤ length (now b)) ⌝ }
+{
+    let offset = part.offset;
+    let size = part.size;
+    let v = part.verdict;
+    match v {
+        Verdict::Refused(_, _) => &b[0..0],
+        Verdict::Accepted => {
+            let start = offset + 8;
+            let end = start + size;
+            &b[start..end]
+        }
     }
 }
 
@@ -363,8 +394,9 @@ fn stages(s: Stages) {
     }
 }
 
-fn program(b: &[u8], edition: usize) {
-    let r = dxil_report::report(b, edition);
+// The data d of the part, with the stage that PSV0 shows.
+fn program_in(d: &[u8], psv0_stage: Field) {
+    let r = dxil::read(d);
     let v = r.verdict;
     match v {
         Verdict::Refused(n, place) => {
@@ -380,8 +412,27 @@ fn program(b: &[u8], edition: usize) {
             count_of(b" offset ", h.bitcode_offset);
             count_of(b" size ", h.bitcode_size);
             text(b"\n");
-            let s = r.stages;
-            stages(s);
+            stages(dxil_report::compared(h.stage, psv0_stage));
+        }
+    }
+}
+
+fn program(b: &[u8], t: Table, p: SectionPlaces)
+    requires { ⌜ t ≡ tableOf (now b) ⌝ }
+{
+    let part = part_of(b, t, b"DXIL");
+    let d = data(b, part);
+    let v = part.verdict;
+    match v {
+        Verdict::Refused(n, place) => {
+            text(b"program ");
+            printing::refusal(n, place);
+        }
+        Verdict::Accepted => {
+            let a = places::runtime_info(b, p);
+            let r = a.info;
+            let psv0_stage = r.stage;
+            program_in(d, psv0_stage);
         }
     }
 }
@@ -405,7 +456,7 @@ fn name_in(d: &[u8], name: Name) {
     }
 }
 
-// Element i of data that the report has judged: by itself, so that it costs no other element.
+// Element i of data that were judged: by itself, so that it costs no other element.
 fn signature_element(d: &[u8], part: SignaturePart, i: usize) {
     let a = signature::element_alone(d, i);
     let e = a.element;
@@ -434,8 +485,8 @@ fn signature_elements(d: &[u8], part: SignaturePart, n: usize) {
     }
 }
 
-fn difference(b: &[u8], edition: usize, part: SignaturePart) {
-    let r = signature_report::first_difference(b, edition, part);
+fn difference(d: &[u8], b: &[u8], p: SectionPlaces, part: SignaturePart) {
+    let r = signature_report::difference_by(d, b, p, part);
     let first = r.first;
     line_of(part);
     text(b"first_difference ");
@@ -446,23 +497,43 @@ fn difference(b: &[u8], edition: usize, part: SignaturePart) {
     text(b"\n");
 }
 
-fn signature_part(b: &[u8], edition: usize, part: SignaturePart) {
-    let r = signature_report::report(b, edition, part);
-    let n = r.count;
-    let start = r.start;
-    let len = r.len;
-    let v = r.verdict;
-    line_of(part);
+// The data d of a part, beside the names in PSV0.
+fn signature_in(d: &[u8], b: &[u8], p: SectionPlaces, part: SignaturePart) {
+    let s = signature::read(d);
+    let v = s.verdict;
     match v {
         Verdict::Refused(m, place) => printing::refusal(m, place),
         Verdict::Accepted => {
             text(b"elements ");
-            number(n);
+            number(s.count);
             text(b"\n");
-            let end = start + len;
-            signature_elements(&b[start..end], part, n);
-            difference(b, edition, part);
+            signature_elements(d, part, s.count);
+            difference(d, b, p, part);
         }
+    }
+}
+
+fn signature_of(b: &[u8], t: Table, part: SignaturePart) -> Part
+    requires { ⌜ t ≡ tableOf (now b) ⌝ }
+    ensures { λ r. ⌜ (r .verdict ≡ Accepted → r .offset + 8 + r .size ≤ length (now (b .entry))) ⌝ }
+{
+    match part {
+        SignaturePart::Input => part_of(b, t, b"ISG1"),
+        SignaturePart::Output => part_of(b, t, b"OSG1"),
+        SignaturePart::Patch => part_of(b, t, b"PSG1"),
+    }
+}
+
+fn signature_part(b: &[u8], t: Table, p: SectionPlaces, part: SignaturePart)
+    requires { ⌜ t ≡ tableOf (now b) ⌝ }
+{
+    let found = signature_of(b, t, part);
+    let d = data(b, found);
+    let v = found.verdict;
+    line_of(part);
+    match v {
+        Verdict::Refused(m, place) => printing::refusal(m, place),
+        Verdict::Accepted => signature_in(d, b, p, part),
     }
 }
 
@@ -482,7 +553,7 @@ fn item_line(i: usize) {
     number(i);
 }
 
-// Range j of item i, of data that the report has judged.
+// Range j of item i, of data that were judged.
 fn root_range(d: &[u8], i: usize, j: usize) {
     let a = root_signature::range_alone(d, i, j);
     let r = a.range;
@@ -507,7 +578,7 @@ fn root_ranges(d: &[u8], i: usize, n: usize) {
     }
 }
 
-// Item i of data that the report has judged: by itself, so that it costs no other item.
+// Item i of data that were judged: by itself, so that it costs no other item.
 fn root_item(d: &[u8], i: usize) {
     let a = root_signature::item_alone(d, i);
     let item = a.item;
@@ -602,28 +673,40 @@ fn root_header(h: RootHeader) {
     text(b"\n");
 }
 
-fn root(b: &[u8], edition: usize) {
-    let r = root_signature_report::report(b, edition);
+// The data d of the part.
+fn root_in(d: &[u8]) {
+    let r = root_signature::read(d);
     let h = r.header;
-    let start = r.start;
-    let len = r.len;
     let v = r.verdict;
-    text(b"root_signature ");
     match v {
         Verdict::Refused(m, place) => printing::refusal(m, place),
         Verdict::Accepted => {
             root_header(h);
-            let end = start + len;
-            root_items(&b[start..end], h.parameters as usize + h.samplers as usize);
+            root_items(d, h.parameters as usize + h.samplers as usize);
         }
+    }
+}
+
+fn root(b: &[u8], t: Table)
+    requires { ⌜ t ≡ tableOf (now b) ⌝ }
+{
+    let part = part_of(b, t, b"RTS0");
+    let d = data(b, part);
+    let v = part.verdict;
+    text(b"root_signature ");
+    match v {
+        Verdict::Refused(m, place) => printing::refusal(m, place),
+        Verdict::Accepted => root_in(d),
     }
 }
 
 // ---- all of it
 
-// The PSV0 lines go by the places p that the opening handed back; a report opens for itself.
-fn dump(b: &[u8], edition: usize, p: SectionPlaces) {
-    parts(b);
+// A container that opened: its part table, by which the other parts' data are found, and the places p that the opening handed back, by which all that
+// is shown of PSV0 is read.
+fn dump(b: &[u8], p: SectionPlaces) {
+    let table = part_table::read(b);
+    parts(table);
     runtime(b, p);
     let a = places::lengths(b, p);
     let l = a.lengths;
@@ -636,11 +719,11 @@ fn dump(b: &[u8], edition: usize, p: SectionPlaces) {
     let e = l.elements;
     elements(b, p, e);
     masks(b, p);
-    program(b, edition);
-    signature_part(b, edition, SignaturePart::Input);
-    signature_part(b, edition, SignaturePart::Output);
-    signature_part(b, edition, SignaturePart::Patch);
-    root(b, edition);
+    program(b, table, p);
+    signature_part(b, table, p, SignaturePart::Input);
+    signature_part(b, table, p, SignaturePart::Output);
+    signature_part(b, table, p, SignaturePart::Patch);
+    root(b, table);
 }
 
 fn show(b: &[u8], edition: usize) {
@@ -655,7 +738,7 @@ fn show(b: &[u8], edition: usize) {
             text(b" read ");
             number(places.edition as usize);
             text(b"\n");
-            dump(b, edition, places);
+            dump(b, places);
         }
     }
 }

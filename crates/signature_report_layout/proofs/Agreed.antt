@@ -9,7 +9,6 @@ use lib.ListN.{length, take, drop}
 use borrow.Author.Tests.{le-leb, ltb-true}
 use Rattle.constants.specs.Edition.{sizeOf}
 use Rattle.wire.specs.Number.{u32At}
-use Rattle.wire.specs.Verdict.{_then_}
 use Rattle.wire.specs.declared.Verdict.{Verdict}
 use Rattle.wire.specs.declared.Verdict.the-variants.{Accepted, Refused}
 use Rattle.wire.proofs.Verdicts.{then-accepted, check-accepted}
@@ -53,13 +52,12 @@ module _ (a a′ : Question → Value) (same : (q : Question) → needs q ≡ 1 
   names-same s n = rw (same inputElements refl, same outputElements refl, same patchElements refl, same (elementString _) refl)
 
 -- two second reports under one verdict are the same where the data are the same and, where they accept, the names
-difference-if : (v : Verdict) (s : SignaturePart) (k k′ : ℕ) (b b′ : List ℕ) → signatureData s b′ ≡ signatureData s b
-    → (v ≡ Accepted → (n : ℕ) → psvName s (containerAnswered k′ b′) n ≡ psvName s (containerAnswered k b) n)
-    → differenceIf v s k′ b′ ≡ differenceIf v s k b
-difference-if (Refused n p) s k k′ b b′ d f = refl
-difference-if Accepted s k k′ b b′ d f =
-    let names : psvName s (containerAnswered k′ b′) ≡ psvName s (containerAnswered k b) = λ i n. f refl n i in
-    rw (d, names)
+pub difference-if : (v : Verdict) {d d′ : List ℕ} {f f′ : ℕ → Value} → d′ ≡ d → (v ≡ Accepted → (n : ℕ) → f′ n ≡ f n)
+    → differenceIf v d′ f′ ≡ differenceIf v d f
+difference-if (Refused n p) e g = refl
+difference-if Accepted {f = f} {f′ = f′} e g =
+    let names : f′ ≡ f = λ i n. g refl n i in
+    rw (e, names)
 
 module _ (s : SignaturePart) (i j : ℕ) (b : List ℕ) (h : i ≤ j) (l : j ≤ 3) where
   pub signatures-agree : SignaturesAgree s i j b
@@ -74,7 +72,7 @@ module _ (s : SignaturePart) (i j : ℕ) (b : List ℕ) (h : i ≤ j) (l : j ≤
         element = λ o m. rw (same o);
         difference = λ o hi hj.
             rw (same o)
-            (difference-if (signatureReported s i b) s i j b b refl
+            (difference-if (signatureReported s i b) refl
             (λ v. names-same _ _ (shown-same i j b (editions-agree i j b h l .opens o) o hi hj) s));
       }
 
@@ -185,7 +183,7 @@ module _ (s : SignaturePart) (k : ℕ) (b b′ : List ℕ) (o : containerJudged 
               ∙ ap (λ (a : SignatureAnswer). viewOf a .points) (answers-same m)
               ∙ sym (moved-view (inPart s k b m .verdict) (inPart s k b m .name) _ .1),
         );
-        difference = rw verdict-same (difference-if (signatureReported s k b) s k k b b′ data-same
+        difference = rw verdict-same (difference-if (signatureReported s k b) data-same
             (λ v. names-same _ _ (λ q e. widening-kept k b b′ o long w .shows q) s));
       }
     where

@@ -1,4 +1,5 @@
 pub mod Agreed
 pub mod Boxes
 pub mod Names
+pub mod Placed
 pub mod Steps

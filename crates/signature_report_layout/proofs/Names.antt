@@ -16,11 +16,11 @@ use Rattle.psv0_layout.specs.Judged.{opened}
 use Rattle.psv0_layout.specs.Layout.{guideOf, editionRead}
 use Rattle.psv0_layout.specs.Reference.{stringAt}
 use Rattle.psv0_layout.specs.Shown.{Question, view, inputElements, outputElements, patchElements, elementString, setIf, value, shownAt}
-use Rattle.psv0_layout.proofs.Listed.{total-short, handed-string}
+use Rattle.psv0_layout.proofs.Listed.{handed-string}
 use Rattle.psv0_layout.proofs.Positions.{guide-seen}
 use Rattle.container_layout.specs.Container.{psvOf, containerJudged, containerAnswered}
 use Rattle.container_layout.proofs.Containers.{data-opens}
-use Rattle.signature_report_layout.specs.Listed.{listed}
+use Rattle.signature_report_layout.specs.Listed.{listed, listOf}
 use Rattle.signature_report_layout.specs.Reported.{countShown, listSize, listBefore, psvName}
 use Rattle.signature_report_layout.specs.declared.SignaturePart.{SignaturePart}
 use Rattle.signature_report_layout.specs.declared.SignaturePart.the-variants.{Input, Output, Patch}
@@ -66,15 +66,6 @@ module _ (k : ℕ) (b : List ℕ) (o : containerJudged k b ≡ Accepted) where
   unfolding containerAnswered shownAt
   total-none h = rw (o, lt-leb 1 (editionRead k (psvOf b)) h)
 
-  pub totals-short : inputs k b + outputs k b + patches k b < 4294967296
-  totals-short = go (leb 1 (editionRead k (psvOf b))) refl
-    where
-      go : (t : Bool) → leb 1 (editionRead k (psvOf b)) ≡ t → inputs k b + outputs k b + patches k b < 4294967296
-      go true e =
-          let h = leb-true 1 (editionRead k (psvOf b)) e in
-          rw (total-is h) (total-short k (psvOf b) alone h)
-      go false e = omega (arith, total-none (leb-false 1 (editionRead k (psvOf b)) e))
-
   some-read : {i : ℕ} → i < inputs k b + outputs k b + patches k b → 1 ≤ editionRead k (psvOf b)
   some-read l = go (leb 1 (editionRead k (psvOf b))) refl
     where
@@ -94,11 +85,10 @@ module _ (k : ℕ) (b : List ℕ) (o : containerJudged k b ≡ Accepted) where
       shown-is (elementString i) ∙ rw e (handed-string k (psvOf b) alone h i (rw e at l))
 
   pub names-listed : (s : SignaturePart) (i : ℕ)
-      → listed (handed (editionRead k (psvOf b)) (psvOf b) stringTable) (handed (editionRead k (psvOf b)) (psvOf b) elementRecords)
-      (listBefore s (inputs k b) (outputs k b)) (listSize s (inputs k b) (outputs k b) (patches k b))
-      (length (handed (editionRead k (psvOf b)) (psvOf b) elementRecords) / (inputs k b + outputs k b + patches k b)) i
+      → listOf s (inputs k b) (outputs k b) (patches k b) (handed (editionRead k (psvOf b)) (psvOf b) stringTable)
+      (handed (editionRead k (psvOf b)) (psvOf b) elementRecords) i
       ≡ psvName s (containerAnswered k b) i
-  unfolding listed psvName
+  unfolding listOf listed psvName
   names-listed s i = go (ltb i (listSize s (inputs k b) (outputs k b) (patches k b))) refl
     where
       go : (t : Bool) → ltb i (listSize s (inputs k b) (outputs k b) (patches k b)) ≡ t

@@ -1,43 +1,35 @@
 -- The steps of the reports' code.
 -- Assumes nothing.
-use Prim.Native.Nat.{ℕ, _+_, _-_, _*_, _/_, _≤_, _<_}
-use mathlib.Core.Path.{_≡_, refl, sym, _∙_, ap}
+use Prim.Native.Nat.{ℕ, _+_, _-_, _*_, _≤_, _<_}
+use mathlib.Core.Path.{_≡_, sym, _∙_, ap}
 use mathlib.Core.Bool.{Bool, true, false, not}
 use mathlib.Core.List.{List, []}
 use native.Mathlib.Omega.{arith}
-use native.Mathlib.Nat.{mul-le-mul-right, mul-div-le, le-trans}
+use native.Mathlib.Nat.{mul-le-mul-right, le-trans}
 use lib.ListN.{length, take, drop, length-take, length-drop}
 use borrow.Author.Tests.{eq-eqb, ne-eqb, lt-ltb, le-ltb}
 use Rattle.wire.specs.Number.{u32At}
 use Rattle.wire.specs.Search.{first}
 use Rattle.wire.specs.Stretch.{sameBytes}
 use Rattle.wire.specs.Verdict.{_then_}
-use Rattle.wire.specs.declared.Verdict.{Verdict}
 use Rattle.wire.specs.declared.Verdict.the-variants.{Accepted, Refused}
 use Rattle.wire.proofs.Searches.{Searched, found, none}
-use Rattle.part_table_layout.specs.declared.Found.{Found}
 use Rattle.part_table_layout.specs.declared.Found.the-variants.{At as FoundAt, Nothing}
 use Rattle.part_table_layout.specs.declared.Part.{Part}
-use Rattle.psv0_layout.specs.Answers.{fieldOf, infoOf, infoAnswerOf, bytesBeside}
-use Rattle.psv0_layout.specs.Handed.{stringTable, elementRecords, handed}
-use Rattle.psv0_layout.specs.Layout.{editionRead}
 use Rattle.psv0_layout.specs.Reference.{stringAt}
-use Rattle.psv0_layout.specs.Shown.{Value, unset, number, view, inputElements, outputElements, patchElements}
-use Rattle.psv0_layout.specs.declared.InfoAnswer.{InfoAnswer}
-use Rattle.container_layout.specs.Container.{psvOf, containerJudged, containerAnswered, containerPart}
+use Rattle.psv0_layout.specs.Shown.{Value, unset, view}
+use Rattle.container_layout.specs.Container.{containerPart}
 use Rattle.container_layout.proofs.Parts.{part-short, part-fits}
-use Rattle.container_layout.proofs.Reports.{no-report, data-reported, starts-at, data-there, reported-opens, reported-judged, reported-size, reported-inside, reported-bytes}
+use Rattle.container_layout.proofs.Reports.{no-report, data-reported, starts-at, data-there, reported-size}
 use Rattle.signature_layout.specs.Signature.{countOf, firstOf, nameOffset, signatureJudged, elementJudged, signatureOf, refusedElement, elementOf}
 use Rattle.signature_layout.specs.declared.Name.the-variants.{At, Unset}
 use Rattle.signature_layout.specs.declared.Signature.{Signature}
 use Rattle.signature_layout.specs.declared.SignatureAnswer.{SignatureAnswer}
 use Rattle.signature_layout.proofs.Signatures.{offset-read, name-inside}
-use Rattle.signature_report_layout.specs.Listed.{countIn, listed}
-use Rattle.signature_report_layout.specs.Reported.{partName, signatureData, signatureReported, reportIf, signatureReportOf, moved, movedName, elementReported, elementReportOf, countShown, listSize, listBefore, psvName, differs, differsAt, firstDifference, differenceOf}
+use Rattle.signature_report_layout.specs.Listed.{listed}
+use Rattle.signature_report_layout.specs.Reported.{partName, signatureData, signatureReported, reportIf, signatureReportOf, moved, movedName, elementReported, elementReportOf, differs, differsAt, firstDifference}
 use Rattle.signature_report_layout.specs.declared.SignaturePart.{SignaturePart}
 use Rattle.signature_report_layout.specs.declared.SignaturePart.the-variants.{Input}
-use Rattle.signature_report_layout.specs.declared.SignatureReport.{SignatureReport}
-use Rattle.signature_report_layout.proofs.Names.{inputs, outputs, patches, list-within, totals-short, names-listed}
 
 -- ---- r is the part that was asked for
 module _ (s : SignaturePart) (k : ℕ) (b : List ℕ) {r : Part} (hr : r ≡ containerPart k b (partName s)) where
@@ -102,91 +94,6 @@ module _ (s : SignaturePart) (k : ℕ) (b : List ℕ) {r : Part} (hr : r ≡ con
       pub element-moved : {q : SignatureAnswer} → q ≡ moved (r .offset + 8) a → q ≡ elementReportOf s k b i
       unfolding elementReportOf elementReported elementOf elementJudged
       element-moved e = e ∙ rw (starts-at k b (partName s) hr h, element-is, judged-is)
-
--- ---- the second report: r is the first
-verdict-if : (v : Verdict) (s : SignaturePart) (b : List ℕ) → reportIf v s b .verdict ≡ v
-verdict-if Accepted s b = refl
-verdict-if (Refused n p) s b = refl
-
-field-count : (x : Value) → countIn (fieldOf x) ≡ countShown x
-field-count unset = refl
-field-count (number n) = refl
-field-count (view l) = refl
-
-module _ (s : SignaturePart) (k : ℕ) (b : List ℕ) {r : SignatureReport} (hr : r ≡ signatureReportOf s k b) where
-  report-is : r .verdict ≡ signatureReported s k b
-  unfolding signatureReportOf
-  report-is = ap (λ (q : SignatureReport). q .verdict) hr ∙ verdict-if (signatureReported s k b) s b
-
-  pub no-difference : {n p : ℕ} → r .verdict ≡ Refused n p → record { verdict = Refused n p; first = Nothing } ≡ differenceOf s k b
-  unfolding differenceOf
-  no-difference e = rw (← report-is, e)
-
-  module _ (e : r .verdict ≡ Accepted) where
-    accepted : signatureReported s k b ≡ Accepted
-    accepted = sym report-is ∙ e
-
-    shown : r ≡ reportIf Accepted s b
-    unfolding signatureReportOf
-    shown = hr ∙ rw accepted
-
-    pub stretch-inside : r .start + r .len ≤ length b
-    unfolding signatureReported
-    stretch-inside = rw shown (reported-inside signatureJudged (partName s) k b accepted)
-
-    stretch-is : take (r .start + r .len - r .start) (drop (r .start) b) ≡ signatureData s b
-    unfolding signatureReported
-    stretch-is =
-        let z : r .start + r .len - r .start ≡ r .len = omega arith in
-        rw (z, shown) (reported-bytes signatureJudged (partName s) k b accepted)
-
-    pub stretch-judged : signatureJudged (take (r .start + r .len - r .start) (drop (r .start) b)) ≡ Accepted
-    unfolding signatureReported
-    stretch-judged = rw stretch-is (reported-judged signatureJudged (partName s) k b accepted)
-
-    opens : containerJudged k b ≡ Accepted
-    unfolding signatureReported
-    opens = reported-opens signatureJudged (partName s) k b accepted
-
-    -- i, m and p are the counts that were taken from the runtime info
-    module _ {a : InfoAnswer} (ha : a ≡ infoAnswerOf (containerJudged k b) (containerAnswered k b)) {i m p : ℕ}
-        (ei : i ≡ countIn (a .info .«input_elements»)) (em : m ≡ countIn (a .info .«output_elements»)) (ep : p ≡ countIn (a .info .«patch_elements»)) where
-      counts-are : (i ≡ inputs k b) × (m ≡ outputs k b) × (p ≡ patches k b)
-      unfolding infoAnswerOf infoOf
-      counts-are = (
-        ei ∙ rw ha (field-count (containerAnswered k b inputElements)),
-        em ∙ rw ha (field-count (containerAnswered k b outputElements)),
-        ep ∙ rw ha (field-count (containerAnswered k b patchElements)),
-      )
-
-      pub counts-short : i + m + p < 4294967296
-      counts-short = let (qi, qm, qp) = counts-are in rw (qi, qm, qp) (totals-short k b opens)
-
-      -- the list's records lie inside the records c, w bytes apart
-      module _ {f n w : ℕ} (c : List ℕ) (ef : f ≡ listBefore s i m) (en : n ≡ listSize s i m p) (ew : w ≡ length c / (i + m + p)) where
-        within : f + n ≤ i + m + p
-        within = rw (ef, en) (list-within s i m p)
-
-        pub list-short : f + n ≤ 4294967296
-        list-short = omega (arith, within, counts-short)
-
-        pub list-inside : (f + n) * w ≤ length c
-        list-inside = le-trans (mul-le-mul-right w within) (rw ew (mul-div-le (length c) (i + m + p)))
-
-        pub difference-is : {t : List ℕ} {x : Found}
-            → t ≡ bytesBeside (containerJudged k b) (handed (editionRead k (psvOf b)) (psvOf b) stringTable)
-            → c ≡ bytesBeside (containerJudged k b) (handed (editionRead k (psvOf b)) (psvOf b) elementRecords)
-            → x ≡ firstDifference (take (r .start + r .len - r .start) (drop (r .start) b)) (listed t c f n w)
-            → record { verdict = Accepted; first = x } ≡ differenceOf s k b
-        unfolding differenceOf
-        difference-is {t} et ec ex =
-            let (qi, qm, qp) = counts-are in
-            let t′ : t ≡ handed (editionRead k (psvOf b)) (psvOf b) stringTable = et ∙ rw opens in
-            let c′ : c ≡ handed (editionRead k (psvOf b)) (psvOf b) elementRecords = ec ∙ rw opens in
-            let same : (j : ℕ) → listed t c f n w j ≡ psvName s (containerAnswered k b) j =
-            λ j. rw (t′, ew, c′, ef, en, qi, qm, qp) (names-listed k b opens s j) in
-            let names : listed t c f n w ≡ psvName s (containerAnswered k b) = λ q j. same j q in
-            rw (accepted, ex, stretch-is, names)
 
 -- ---- whether element i differs from the list's: f is the first element's offset, o the element's name offset
 module _ (d : List ℕ) (i : ℕ) (t c : List ℕ) (before size w : ℕ) {f o : ℕ} (ef : f ≡ firstOf d)

@@ -107,11 +107,10 @@ differsAt d names i = not (eqb (nameOffset d i) 0) && differs (stringAt d (nameO
 unfoldable pub firstDifference : List ℕ → (ℕ → Value) → Found
 firstDifference d names = foundBelow (countOf d) (first (differsAt d names) (countOf d))
 
--- "after the same refusals"; nothing beside a refusal
-abbrev pub differenceIf : Verdict → SignaturePart → ℕ → List ℕ → DifferenceReport
-differenceIf Accepted s k b =
-    record { verdict = Accepted; first = firstDifference (signatureData s b) (psvName s (containerAnswered k b)) }
-differenceIf (Refused n p) s k b = record { verdict = Refused n p; first = Nothing }
+-- "after the same refusals"; nothing beside a refusal. d are the part's data, with the names that PSV0 has
+abbrev pub differenceIf : Verdict → List ℕ → (ℕ → Value) → DifferenceReport
+differenceIf Accepted d names = record { verdict = Accepted; first = firstDifference d names }
+differenceIf (Refused n p) d names = record { verdict = Refused n p; first = Nothing }
 
 unfoldable pub differenceOf : SignaturePart → ℕ → List ℕ → DifferenceReport
-differenceOf s k b = differenceIf (signatureReported s k b) s k b
+differenceOf s k b = differenceIf (signatureReported s k b) (signatureData s b) (psvName s (containerAnswered k b))

@@ -1,5 +1,6 @@
 pub mod Machine
 pub mod Marking
+pub mod One
 pub mod Plain
 pub mod Records
 pub mod Rows

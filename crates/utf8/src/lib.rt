@@ -2,15 +2,16 @@
 // public function takes any bytes and any numbers.
 ghost use mathlib.Core.Path.{_≡_};
 ghost use mathlib.Core.Bool.{true, false};
-ghost use Prim.Native.Nat.{ℕ, _+_, _-_, _*_, _/_, _%_, _^_, _≤_, _<_, min, max};
+ghost use Prim.Native.Nat.{_+_, _-_, _*_, _/_, _%_, _^_, _≤_, _<_, min, max};
 ghost use lib.Dec.{eqb};
 ghost use lib.ListN.{length, getD};
 ghost use Rattle.utf8_layout.specs.Lead.{follows, lead, leads};
 ghost use Rattle.utf8_layout.specs.Sequence.{wellFormed, codePoints};
-ghost use Rattle.psv0_layout.specs.Position.{PlainFrom, referenceAt};
+ghost use Rattle.psv0_layout.specs.Position.{PlainFrom};
 ghost use Rattle.psv0_layout.specs.Reference.{stringGood};
 ghost use Rattle.utf8.specs.Machine.{State, ran};
 ghost use Rattle.utf8.specs.Marks.{pastAt, flag, bit, markOf, Marked};
+ghost use Rattle.utf8.specs.One.{Letters, readOf};
 ghost use Rattle.utf8.specs.Referred.{passes, firstIll};
 ghost use Rattle.utf8.specs.Rows.{rowsOf};
 
@@ -640,8 +641,33 @@ pub fn first_ill(
 }
 
 // ---- one reference
-// The same by the machine, for a string whose zero byte stands at a place.
-fn read_string(t: &[u8], o: usize, to: usize) -> bool
+// The string at a reference: how many bytes and how many code points it has, or that the reference isn't good.
+pub enum StringRead {
+    Good(usize, usize),
+    Ill,
+}
+
+// How far bytes below 0x80 other than zero go from one place on, at most up to another.
+fn letters_end(t: &[u8], from: usize, to: usize) -> usize
+    requires { ⌜ (from ≤ to) × (to ≤ length (now t)) ⌝ }
+    ensures { λ r. ⌜ (from ≤ r) × (r ≤ to) × Letters (now (t .entry)) from r ⌝ }
+{
+    let mut i = from;
+    while i < to {
+        let x = t[i];
+        if x == 0 {
+            return i;
+        }
+        if 127 < x {
+            return i;
+        }
+        i += 1;
+    }
+    i
+}
+
+// Whether a reference is good, by the machine, where the zero byte that ends its string stands at a place.
+fn ends_well(t: &[u8], o: usize, to: usize) -> bool
     requires { ⌜ (o ≤ to) × (to < length (now t)) × (getD (now t) to 0 ≡ 0) ⌝ }
     ensures { λ r. ⌜ r ≡ stringGood (now (t .entry)) o ⌝ }
 {
@@ -649,21 +675,51 @@ fn read_string(t: &[u8], o: usize, to: usize) -> bool
     run(&rows, t, o, to + 1, 6) == 54
 }
 
-// Whether one reference is good, whatever the others are.
-pub fn is_good(t: &[u8], o: usize) -> bool
-    ensures { λ r. ⌜ r ≡ stringGood (now (t .entry)) o ⌝ }
+// A string of any length and letters: each walk over it looks at many bytes at once, but that of the machine.
+fn read_any(t: &[u8], o: usize) -> StringRead
+    requires { ⌜ o < length (now t) ⌝ }
+    ensures { λ r. ⌜ r ≡ readOf (now (t .entry)) o ⌝ }
+{
+    let n = strings::len_at(t, o);
+    let to = o + n;
+    if t.len() <= to {
+        return StringRead::Ill;
+    }
+    if plain_from(&t[o..to], 0) {
+        return StringRead::Good(n, n);
+    }
+    if ends_well(t, o, to) {
+        return StringRead::Good(n, code_points(&t[o..to]));
+    }
+    StringRead::Ill
+}
+
+// The string at a reference, whatever the others are. Most are short and have letters below 0x80 alone: one walk tells where such a string ends, that
+// it is well formed and how many code points it has.
+pub fn read_string(t: &[u8], o: usize) -> StringRead
+    ensures { λ r. ⌜ r ≡ readOf (now (t .entry)) o ⌝ }
 {
     let len = t.len();
     if len <= o {
-        return false;
+        return StringRead::Ill;
     }
-    let n = strings::len_at(t, o);
-    let to = o + n;
-    if len <= to {
-        return false;
+    let near = if len - o < 256 { len } else { o + 256 };
+    let i = letters_end(t, o, near);
+    if i < len {
+        if t[i] == 0 {
+            return StringRead::Good(i - o, i - o);
+        }
     }
-    if plain_from(&t[o..to], 0) {
-        return true;
+    read_any(t, o)
+}
+
+// Whether one reference is good.
+pub fn is_good(t: &[u8], o: usize) -> bool
+    ensures { λ r. ⌜ r ≡ stringGood (now (t .entry)) o ⌝ }
+{
+    let r = read_string(t, o);
+    match r {
+        StringRead::Good(_, _) => true,
+        StringRead::Ill => false,
     }
-    read_string(t, o, to)
 }

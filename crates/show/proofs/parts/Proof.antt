@@ -4,10 +4,10 @@ use Rattle.show.proofs.parts.Statement.{statement}
 use Rattle.show.proofs.parts.Tie as tie
 
 abbrev Inv-loop : tie.InvT-loop
-Inv-loop b t n i₀ i = i ≤ 96
+Inv-loop t n i₀ i = i ≤ 96
 
 abbrev μ-loop : tie.MeasureT-loop
-μ-loop b t n i₀ i = 96 - i
+μ-loop t n i₀ i = 96 - i
 
 pub parts-spec : {M : Type 1} → statement M
 parts-spec =
@@ -15,7 +15,6 @@ parts-spec =
     (tie.spec
     Inv-loop
     μ-loop
-    (λ c κs. search needs)
     (λ c. search needs)
     (λ c κs. search needs)
     (λ c κs. search needs)
