@@ -3,7 +3,7 @@
 use Prim.Native.Nat.{ℕ}
 use mathlib.Core.Path.{_≡_, refl}
 use mathlib.Core.List.{List, [], _∷_, _++_}
-use lib.ListN.{replicate}
+use lib.ListN.{take, replicate}
 use Rattle.wire.specs.Number.{u16At, u32At}
 use Rattle.wire.specs.Stretch.{sameBytes}
 use Rattle.wire.specs.Verdict.{_then_, check, when, from, each}
@@ -17,11 +17,17 @@ use Rattle.psv0_layout.specs.Judged.{headJudged, fieldsJudged, bodyFits, elemen
 use Rattle.psv0_layout.specs.Layout.{counted, afterCounted, countedFits, records, afterRecords, recordsFit, rows, sections, bodyOf, seen}
 use Rattle.psv0_layout.specs.Reference.{hasZero, untilZero, stringEnds, stringAt, stringGood, indexGood}
 use Rattle.psv0_layout.specs.Shown.{value, shownAt}
+use Rattle.places_layout.specs.Answers.{shownBy, infoBy}
+use Rattle.places_layout.specs.Handed.{startBy, lengthBy, handedBy}
+use Rattle.places_layout.specs.Read.{sourceOf, isThere, readable, valueBy, bodyBy, seenBy, answeredFrom, answeredBy}
+use Rattle.places_layout.specs.declared.SectionPlaces.{SectionPlaces}
 use Rattle.container_layout.specs.Container.{psvOf, beforePsv, containerJudged, containerAnswered}
 use Rattle.container_layout.specs.Report.{dataNamed, reported}
 use Rattle.signature_layout.specs.Signature.{elementAt, nameEnds, nameGood, nameJudged as signatureNameJudged, signatureJudged, nameOf}
 use Rattle.signature_layout.specs.declared.Name.{Name}
 use Rattle.signature_layout.specs.declared.Name.the-variants.{At}
+use Rattle.signature_report_layout.specs.Listed.{listed, listOf}
+use Rattle.signature_report_layout.specs.Placed.{neededBy, namesBy, differenceBy}
 use Rattle.signature_report_layout.specs.Reported.{signatureReported, signatureReportOf, elementReported, elementReportOf, psvName, differsAt, firstDifference, differenceOf}
 use Rattle.signature_report_layout.specs.declared.DifferenceReport.{DifferenceReport}
 use Rattle.signature_report_layout.specs.declared.SignaturePart.the-variants.{Input, Output, Patch}
@@ -121,3 +127,58 @@ said =
 pub boxes-hold : given ≡ said
 unfolding table fits front more after countedIn wellFormed codePoints u16At u32At sameBytes _then_ check when from each find countOf offsetAt nameAt sizeAt dataAt endAt earliest partJudged mayRepeat mayStand nameJudged headerJudged partsJudged tableJudged maskWords sum headJudged fieldsJudged bodyFits elementJudged elementsJudged entryJudged judgedAt counted afterCounted countedFits records afterRecords recordsFit rows sections bodyOf seen hasZero untilZero stringEnds stringAt stringGood indexGood value shownAt psvOf beforePsv containerJudged containerAnswered dataNamed reported elementAt nameEnds nameGood signatureNameJudged signatureJudged nameOf signatureReported signatureReportOf elementReported elementReportOf psvName differsAt firstDifference differenceOf
 boxes-hold = refl
+
+-- ---- the second report by places: those of the container, but for the string table's length t and the number of elements n
+abbrev placesWith : ℕ → ℕ → SectionPlaces
+placesWith t n =
+    record {
+      edition = 1;
+      runtime = 76;
+      stage = 0;
+      resources = 116;
+      «resource_count» = 0;
+      «resource_size» = 0;
+      strings = 120;
+      «string_bytes» = t;
+      indices = 132;
+      «index_count» = 0;
+      elements = 136;
+      «element_count» = n;
+      «element_size» = 16;
+      masks = 200;
+      «mask_words» = zeros 11;
+    }
+
+abbrev by-places : List DifferenceReport
+by-places =
+    differenceBy (placesWith 8 4) (box 80) Input inputs
+    ∷ differenceBy (placesWith 8 4) (box 80) Output outputs
+    ∷ differenceBy (placesWith 8 4) (box 80) Patch (patches 0xA9)
+    ∷ differenceBy (placesWith 300 4) (box 80) Input []
+    ∷ differenceBy (placesWith 299 4) (box 80) Output outputs
+    ∷ differenceBy (placesWith 300 4) (box 80) Output outputs
+    ∷ differenceBy (placesWith 8 17) (box 80) Input inputs
+    ∷ differenceBy (placesWith 8 18) (box 80) Input inputs
+    ∷ differenceBy (placesWith 8 4) (take 111 (box 80)) Output outputs
+    ∷ []
+
+abbrev by-places-said : List DifferenceReport
+by-places-said =
+    -- as the container's own
+    record { verdict = Accepted; first = Number 2 }
+    ∷ record { verdict = Accepted; first = Nothing }
+    ∷ record { verdict = Accepted; first = Number 0 }
+    -- the data's refusals first
+    ∷ record { verdict = Refused 43 0; first = Nothing }
+    -- a string table up to the end, and one byte past it; records up to the end, and so further apart than they are, and past it
+    ∷ record { verdict = Accepted; first = Nothing }
+    ∷ record { verdict = Refused 29 0; first = Nothing }
+    ∷ record { verdict = Accepted; first = Number 1 }
+    ∷ record { verdict = Refused 29 0; first = Nothing }
+    -- of bytes that end inside the runtime record
+    ∷ record { verdict = Refused 29 0; first = Nothing }
+    ∷ []
+
+pub by-places-hold : by-places ≡ by-places-said
+unfolding table fits front more after countedIn wellFormed u16At u32At sameBytes _then_ check each sum hasZero untilZero stringEnds stringAt stringGood value elementAt nameEnds nameGood signatureNameJudged signatureJudged differsAt firstDifference sourceOf isThere readable valueBy bodyBy seenBy answeredFrom answeredBy shownBy infoBy startBy lengthBy handedBy listed listOf neededBy namesBy differenceBy
+by-places-hold = refl
