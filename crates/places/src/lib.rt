@@ -557,7 +557,8 @@ fn words_before(words: &[u32], m: usize) -> usize
     total
 }
 
-fn mask(b: &[u8], p: SectionPlaces, m: usize) -> Span
+// Mask m.
+pub fn mask(b: &[u8], p: SectionPlaces, m: usize) -> Span
     ensures { λ s. ⌜ ViewBy p (now (b .entry)) (View.Mask m) s ⌝ }
 {
     if p.edition < 1 {

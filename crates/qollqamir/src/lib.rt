@@ -1482,7 +1482,7 @@ pub extern "C" fn qollqamir_places_lengths(b: &[u8], p: SectionPlaces) -> CLengt
     c_lengths(places::lengths(b, p))
 }
 
-// A view by its kind and number, by places.
+// A view by its kind and number, by places. A mask takes no time but for finding it, so it is asked for by itself: one choice and no call.
 #[no_mangle]
 pub extern "C" fn qollqamir_places_view(
     b: &[u8],
@@ -1492,6 +1492,9 @@ pub extern "C" fn qollqamir_places_view(
 ) -> CSpan
     ensures { λ r. ⌜ CShows (now (b .entry)) (answeredBy p (now (b .entry)) (questionOf (viewOf kind number)) .verdict) (bytesOf (shownBy p (now (b .entry)) (questionOf (viewOf kind number)))) (pointsOf (viewOf kind number) (shownBy p (now (b .entry)))) r ⌝ }
 {
+    if kind == 4 {
+        return c_span(places::mask(b, p, number));
+    }
     c_span(places::view_span(b, p, view_of(kind, number)))
 }
 
