@@ -1,12 +1,13 @@
 //! A reader and writer of DirectX containers and their PSV0 part, a reader of the
 //! DXIL part's header, of the signature parts and of the root signature, a reader and
 //! writer of settings files, and counts over a list of containers, written from
-//! documents 000, 001 and 01 and requests 1 to 3 and 5 to 11 of 02 alone. It is a second
+//! documents 000, 001 and 01 and requests 1 to 3 and 5 to 12 of 02 alone. It is a second
 //! opinion: every rule stands here as directly as it can be said, so that another reader
 //! can be held against it.
 //!
-//! * [`table`] reads the part table (refusals 1 to 9), [`table_part`] and
-//!   [`table_part_occurrence`] one part of it (26), [`after_last_part`] what follows.
+//! * [`table`] reads the part table (refusals 1 to 9), [`table_with_pairs`] also tells how
+//!   many pairs of names it compared, [`table_part`] and [`table_part_occurrence`] read
+//!   one part of it (26), [`after_last_part`] what follows.
 //! * [`open`] opens a whole container, [`open_psv0`] PSV0 data alone; both give
 //!   an [`Opening`], whose methods are the queries (refusal 26).
 //! * [`Places`] is the record of an opening's places and sizes. Its methods are the PSV0
@@ -70,7 +71,7 @@ pub use signature::{
 };
 pub use table::{
     after_last_part, find, find_occurrence, known, may_repeat, table, table_part,
-    table_part_occurrence, Part, KNOWN,
+    table_part_occurrence, table_with_pairs, Part, KNOWN,
 };
 pub use utf8::{code_points, Text};
 pub use write::{assemble, plain, write_psv0};

@@ -2,8 +2,9 @@
 
 use crate::utf8::{bytes_at, Reference, References};
 use crate::{
-    find, find_occurrence, number2, number4, refusal, refusal_at, table, Part, Places, Refusal,
-    Text, DEFAULT_EDITION, EDITION_SIZES, LEAST_RECORD, LONGEST, LONG_RESOURCE, MASKS, NEWEST,
+    find, find_occurrence, number2, number4, refusal, refusal_at, table_with_pairs, Part, Places,
+    Refusal, Text, DEFAULT_EDITION, EDITION_SIZES, LEAST_RECORD, LONGEST, LONG_RESOURCE, MASKS,
+    NEWEST,
 };
 
 const GEOMETRY: u32 = 2;
@@ -308,6 +309,9 @@ pub struct Opening<'a> {
     container: &'a [u8],
     /// The container's parts; none when PSV0 data was opened alone.
     pub parts: Vec<Part>,
+    /// How many pairs of names the table reader compared (request 12); 0 when PSV0 data
+    /// was opened alone.
+    pub pairs: u64,
     /// The greatest edition whose size is at most S.
     pub file_edition: usize,
     /// The lesser of that and the edition asked for.
@@ -326,7 +330,8 @@ pub fn open(bytes: &[u8], edition: usize) -> Result<Opening<'_>, Refusal> {
     if edition > NEWEST {
         return Err(refusal(25));
     }
-    let parts = table(bytes)?;
+    let (parts, pairs) = table_with_pairs(bytes);
+    let parts = parts?;
     match find(&parts, *b"DXIL") {
         Some(i) if parts[i].size > 0 => (),
         _ => return Err(refusal(10)),
@@ -335,6 +340,7 @@ pub fn open(bytes: &[u8], edition: usize) -> Result<Opening<'_>, Refusal> {
     let mut opening = read(parts[i].data(bytes), parts[i].data_at(), edition)?;
     opening.container = bytes;
     opening.parts = parts;
+    opening.pairs = pairs;
     Ok(opening)
 }
 
@@ -398,6 +404,7 @@ fn read(data: &[u8], start: usize, edition: usize) -> Result<Opening<'_>, Refusa
     Ok(Opening {
         container: &[],
         parts: Vec::new(),
+        pairs: 0,
         file_edition,
         edition_read,
         runtime,

@@ -20,6 +20,7 @@ pub fn show(bytes: &[u8], edition: usize) -> String {
 fn lines(opening: &Opening, text: &mut String) -> std::fmt::Result {
     writeln!(text, "edition {} read {}", opening.file_edition, opening.edition_read)?;
     writeln!(text, "parts {}", opening.parts.len())?;
+    writeln!(text, "pairs {}", opening.pairs)?;
     for (i, part) in opening.parts.iter().enumerate() {
         let (occurrence, gap) = (part.occurrence, part.gap);
         writeln!(text, "part {i} {} occurrence {occurrence} gap {gap}", part_line(part))?;

@@ -59,6 +59,20 @@ impl Part {
 
 /// The part table of a container, or its refusal (1 to 9).
 pub fn table(bytes: &[u8]) -> Result<Vec<Part>, Refusal> {
+    table_with_pairs(bytes).0
+}
+
+/// The same, and "beside its answer or refusal, how many pairs of names it compared"
+/// (request 12).
+pub fn table_with_pairs(bytes: &[u8]) -> (Result<Vec<Part>, Refusal>, u64) {
+    // The number "is 0 when a check before 9 refuses": no names are compared for those.
+    let mut pairs = 0;
+    let answer = entries(bytes).and_then(|parts| with_occurrences(parts, &mut pairs));
+    (answer, pairs)
+}
+
+/// The entries before any name is compared: 1 to 8.
+fn entries(bytes: &[u8]) -> Result<Vec<Part>, Refusal> {
     if bytes.len() < HEADER {
         return Err(refusal(1));
     }
@@ -109,20 +123,32 @@ pub fn table(bytes: &[u8]) -> Result<Vec<Part>, Refusal> {
         });
         earliest = end;
     }
+    Ok(parts)
+}
 
-    // At most 96 names: comparing each with those before it is cheap.
-    for i in 0..count {
+/// The entries with their occurrences: 9. Request 12: "for each part in turn, the earlier
+/// ones in order". At most 96 names, so comparing each with those before it is cheap.
+fn with_occurrences(mut parts: Vec<Part>, pairs: &mut u64) -> Result<Vec<Part>, Refusal> {
+    for i in 0..parts.len() {
         let earlier = parts[..i].iter().map(|part| part.name);
-        parts[i].occurrence = occurrence(earlier, parts[i].name).ok_or(refusal_at(9, i))?;
+        let occurrence = occurrence(earlier, parts[i].name, pairs);
+        parts[i].occurrence = occurrence.ok_or(refusal_at(9, i))?;
     }
     Ok(parts)
 }
 
 /// How many of the earlier names are this one, or None where there is such a name
-/// and it may not repeat. Each earlier name is looked at once.
-pub(crate) fn occurrence(earlier: impl Iterator<Item = [u8; 4]>, name: [u8; 4]) -> Option<u64> {
+/// and it may not repeat. Each earlier name is looked at once, and `pairs` goes up by one
+/// as it is compared. Request 12: "a match ends the count" and is in it; "A PRIV compared
+/// with a PRIV counts but doesn't stop the walk."
+pub(crate) fn occurrence(
+    earlier: impl Iterator<Item = [u8; 4]>,
+    name: [u8; 4],
+    pairs: &mut u64,
+) -> Option<u64> {
     let mut count = 0;
     for other in earlier {
+        *pairs += 1;
         if other == name {
             if !may_repeat(name) {
                 return None;

@@ -115,7 +115,8 @@ pub fn assemble(
     let names: Vec<[u8; 4]> =
         names.chunks_exact(4).map(|name| [name[0], name[1], name[2], name[3]]).collect();
     for (i, name) in names.iter().enumerate() {
-        if occurrence(names[..i].iter().copied(), *name).is_none() {
+        // Request 12 asks the table reader alone how many pairs it compared.
+        if occurrence(names[..i].iter().copied(), *name, &mut 0).is_none() {
             return Err(refusal_at(9, i));
         }
     }

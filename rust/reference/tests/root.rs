@@ -1168,9 +1168,9 @@ visibility 4294967295
         let without = show(&container(&[(b"DXIL", b"code"), (b"PSV0", &box_m().bytes())]), 3);
         let before =
             without.strip_suffix("root_signature refused 26 0\n").expect("the last line").replace(
-                "parts 2\npart 0 DXIL 40 4 known occurrence 0 gap 0\n\
+                "parts 2\npairs 1\npart 0 DXIL 40 4 known occurrence 0 gap 0\n\
                  part 1 PSV0 52 32 known occurrence 0 gap 0\n",
-                "parts 3\npart 0 DXIL 44 4 known occurrence 0 gap 0\n\
+                "parts 3\npairs 3\npart 0 DXIL 44 4 known occurrence 0 gap 0\n\
                  part 1 PSV0 56 32 known occurrence 0 gap 0\n\
                  part 2 RTS0 96 288 known occurrence 0 gap 0\n",
             );

@@ -32,6 +32,7 @@ fn edition_zero() {
     let expected = format!(
         "edition 0 read 0
 parts 2
+pairs 1
 part 0 DXIL 40 4 known occurrence 0 gap 0
 part 1 PSV0 52 32 known occurrence 0 gap 0
 stage_info 00000000000000000000000000000000
@@ -107,6 +108,7 @@ fn everything() {
     let expected = format!(
         "edition 3 read 3
 parts 6
+pairs 15
 part 0 ??!~ 56 0 unknown occurrence 0 gap 0
 part 1 DXIL 64 27 known occurrence 0 gap 0
 part 2 PSV0 99 {psv0} known occurrence 0 gap 0
@@ -217,6 +219,7 @@ fn private_parts_and_gaps() {
     );
     let lines = "edition 0 read 0
 parts 6
+pairs 15
 part 0 PRIV 58 5 known occurrence 0 gap 2
 part 1 DXIL 71 4 known occurrence 0 gap 0
 part 2 PRIV 84 0 known occurrence 1 gap 1
@@ -232,6 +235,34 @@ part 5 PRIV 153 2 known occurrence 2 gap 0
     }
     let twice = container(&[(b"PRIV", b""), (b"DXIL", b"x"), (b"PRIV", b""), (b"DXIL", b"x")]);
     assert_eq!(show(&twice, 3), "refused 9 3\n");
+}
+
+#[test]
+fn pairs_of_names() {
+    let psv0 = box_m().bytes();
+    let with = |more: &[&[u8; 4]]| {
+        let mut parts: Vec<(&[u8; 4], &[u8])> = vec![(b"DXIL", b"code"), (b"PSV0", &psv0)];
+        parts.extend(more.iter().map(|name| (*name, &b""[..])));
+        container(&parts)
+    };
+    // Two parts and the private ones, each compared with all before it.
+    for (private, pairs) in [(0, 1), (1, 3), (2, 6), (6, 28), (93, 4_465), (94, 4_560)] {
+        let bytes = with(&vec![b"PRIV"; private]);
+        let parts = private + 2;
+        let at = 32 + 4 * parts;
+        for edition in 0..=3 {
+            let text = show(&bytes, edition);
+            let expected = format!(
+                "edition 0 read 0\nparts {parts}\npairs {pairs}\n\
+                 part 0 DXIL {at} 4 known occurrence 0 gap 0\n"
+            );
+            assert!(text.starts_with(&expected), "{text}");
+            assert_eq!(text.matches("pairs ").count(), 1);
+        }
+    }
+    // Beside a refusal the number isn't shown.
+    assert_eq!(show(&with(&[b"PRIV", b"PSV0"]), 3), "refused 9 3\n");
+    assert_eq!(show(&with(&vec![b"PRIV"; 95]), 3), "refused 6 0\n");
 }
 
 /// What follows the line of mask 10, up to the signature parts.
