@@ -11,8 +11,10 @@ ghost use lib.ListN.{getD};
 ghost use Rattle.constants.specs.Name.{isKnown};
 ghost use Rattle.wire.specs.Number.{u32At};
 ghost use Rattle.wire.specs.Choice.{choose};
+ghost use Rattle.wire.specs.Search.{first};
 ghost use Rattle.wire.specs.Verdict.{each};
 ghost use Rattle.part_table_layout.specs.Lookup.{foundIn, occurrenceNamed, occurrenceIn, occurrenceListed, laterPart, partIn, refusedPart, partAt, occurrenceOf, occurrenceData, partOf, dataOf};
+ghost use Rattle.part_table_layout.specs.Pairs.{ends, pairsFrom, pairsIf, tableAsked};
 ghost use Rattle.part_table_layout.specs.Table.{countOf, offsetAt, nameAt, sizeAt, earliest, partJudged, stoodEarlier, mayRepeat, mayStand, nameJudged, headerJudged, partsJudged, filled, refusedTable, tableIf, tableOf};
 ghost use Rattle.part_table_layout.specs.Three.{threeIf, threeOf};
 
@@ -66,12 +68,14 @@ fn judge_header(b: &[u8]) -> Verdict
 }
 
 // A table with no entries: what a refusal shows, and what a reading starts from.
-fn empty(v: Verdict) -> Table
-    ensures { λ r. ⌜ r ≡ refusedTable v ⌝ }
+fn empty(v: Verdict, counting: bool, pairs: u32) -> Table
+    ensures { λ r. ⌜ r ≡ refusedTable counting pairs v ⌝ }
 {
     Table {
         verdict: v,
         count: 0,
+        counted: counting,
+        pairs,
         names: [0u32; 96],
         offsets: [0u32; 96],
         sizes: [0u32; 96],
@@ -158,6 +162,69 @@ fn judge_names(names: &[u32; 96], n: usize) -> Verdict
     Verdict::Accepted
 }
 
+// The verdict of 9, and how many pairs of names were compared for it.
+struct Compared {
+    verdict: Verdict,
+    pairs: u32,
+}
+
+// The name x compared with the first n, in order: the number of the one that ends the walk, or n.
+fn walk(names: &[u32; 96], n: usize, x: u32) -> usize
+    requires { ⌜ n ≤ 96 ⌝ }
+    ensures { λ r. ⌜ r ≡ first (ends (λ k. getD (now (names .entry)) k 0) x) n ⌝ }
+{
+    let repeats = may_repeat(x);
+    let mut j = 0;
+    while j < n {
+        if names[j] == x {
+            if !repeats {
+                return j;
+            }
+        }
+        j += 1;
+    }
+    n
+}
+
+// As judge_names, one pair after the other up to the first match, and counted. A table with many names takes longer so, since the compiler
+// compares fewer at once.
+fn compare_names(names: &[u32; 96], n: usize) -> Compared
+    requires { ⌜ n ≤ 96 ⌝ }
+    ensures { λ r. ⌜ (r .verdict ≡ each (nameJudged (λ k. getD (now (names .entry)) k 0)) n) × (r .pairs ≡ pairsFrom (λ k. getD (now (names .entry)) k 0) 0 n) ⌝ }
+{
+    let mut pairs = 0;
+    let mut k = 0;
+    while k < n {
+        let j = walk(names, k, names[k]);
+        if j < k {
+            return Compared {
+                verdict: Verdict::Refused(9, k),
+                pairs: pairs + j as u32 + 1,
+            };
+        }
+        pairs += k as u32;
+        k += 1;
+    }
+    Compared {
+        verdict: Verdict::Accepted,
+        pairs,
+    }
+}
+
+// 9, with the pairs counted for who asks.
+fn check_names(names: &[u32; 96], n: usize, counting: bool) -> Compared
+    requires { ⌜ n ≤ 96 ⌝ }
+    ensures { λ r. ⌜ (r .verdict ≡ each (nameJudged (λ k. getD (now (names .entry)) k 0)) n) × (r .pairs ≡ choose counting (pairsFrom (λ k. getD (now (names .entry)) k 0) 0 n) 0) ⌝ }
+{
+    if counting {
+        return compare_names(names, n);
+    }
+    Compared {
+        verdict: judge_names(names, n),
+        pairs: 0,
+    }
+}
+
 // A part's header, beside the verdict of 8.
 struct PartHeader {
     verdict: Verdict,
@@ -218,11 +285,11 @@ fn repeats_with(x: u32, repeats: u32) -> u32
 
 // The headers of the parts, read up to the first that 8 refuses; then 9. Occurrences come from one running counter. The table is filled
 // where it stands: a copy of it costs as much as reading some ten parts.
-fn read_parts(b: &[u8], count: usize) -> Table
+fn read_parts(b: &[u8], count: usize, counting: bool) -> Table
     requires { ⌜ (count ≡ countOf (now b)) × (count ≤ 96) ⌝ }
-    ensures { λ r. ⌜ r ≡ tableIf (partsJudged (now (b .entry))) (now (b .entry)) ⌝ }
+    ensures { λ r. ⌜ r ≡ tableIf counting (choose counting (pairsIf (each (partJudged (now (b .entry))) (countOf (now (b .entry)))) (now (b .entry))) 0) (partsJudged (now (b .entry))) (now (b .entry)) ⌝ }
 {
-    let mut t = empty(Verdict::Accepted);
+    let mut t = empty(Verdict::Accepted, counting, 0);
     t.count = count;
     let mut end = 32 + 4 * count;
     let mut repeats = 0;
@@ -231,7 +298,7 @@ fn read_parts(b: &[u8], count: usize) -> Table
         let h = part_header(b, i, end);
         let v = h.verdict;
         if let Verdict::Refused(_, _) = v {
-            return empty(v);
+            return empty(v, counting, 0);
         }
         let at = h.offset as usize;
         let x = wire::u32_at(b, at);
@@ -244,22 +311,31 @@ fn read_parts(b: &[u8], count: usize) -> Table
         end = at + 8 + h.size as usize;
         i += 1;
     }
-    let twice = judge_names(&t.names, count);
+    let c = check_names(&t.names, count, counting);
+    let twice = c.verdict;
     if let Verdict::Refused(_, _) = twice {
-        return empty(twice);
+        return empty(twice, counting, c.pairs);
     }
+    t.pairs = c.pairs;
     t
 }
 
-// The part table of a container, or its refusal, 1 to 9.
-pub fn read(b: &[u8]) -> Table
-    ensures { λ r. ⌜ r ≡ tableOf (now (b .entry)) ⌝ }
+// The part table of a container, or its refusal, 1 to 9; beside it, for who asks, how many pairs of names were compared.
+pub fn read_with(b: &[u8], counting: bool) -> Table
+    ensures { λ r. ⌜ r ≡ tableAsked counting (now (b .entry)) ⌝ }
 {
     let v = judge_header(b);
     if let Verdict::Refused(_, _) = v {
-        return empty(v);
+        return empty(v, counting, 0);
     }
-    read_parts(b, wire::u32_at(b, 28) as usize)
+    read_parts(b, wire::u32_at(b, 28) as usize, counting)
+}
+
+// The part table for who doesn't ask: each name is compared with all before it, also past a match, and several at once.
+pub fn read(b: &[u8]) -> Table
+    ensures { λ r. ⌜ r ≡ tableOf (now (b .entry)) ⌝ }
+{
+    read_with(b, false)
 }
 
 // What a refused lookup shows.

@@ -18,7 +18,7 @@ use Rattle.wire.specs.declared.Verdict.the-variants.{Accepted, Refused}
 use Rattle.wire.proofs.Choices.{both}
 use Rattle.wire.proofs.Searches.{first-below, first-none}
 use Rattle.wire.proofs.Verdicts.{then-accepted, accepted-then, check-accepted, check-then, checked, each-accepted, each-all}
-use Rattle.part_table_layout.specs.Table.{magic, countOf, offsetAt, nameAt, sizeAt, dataAt, endAt, earliest, partJudged, hasName, priv, mayRepeat, mayStand, nameJudged, headerJudged, partsJudged, tableJudged, refusedTable, acceptedTable, tableOf}
+use Rattle.part_table_layout.specs.Table.{magic, countOf, offsetAt, nameAt, sizeAt, dataAt, endAt, earliest, partJudged, hasName, priv, mayRepeat, mayStand, nameJudged, headerJudged, partsJudged, tableJudged, refusedTable, acceptedTable, tableWith}
 
 -- 1 to 7
 pub record Header (b : List ℕ) : Type 0 where
@@ -138,13 +138,13 @@ accepted-is b s =
     (each-all _ _ (λ k l. name-is-new (nameAt b) k (s .fresh k l))))
 
 -- ---- what is shown
-pub table-accepted : (b : List ℕ) → tableJudged b ≡ Accepted → tableOf b ≡ acceptedTable b
-unfolding tableOf
-table-accepted b h = rw h
+pub table-accepted : (c : Bool) (m : ℕ) (b : List ℕ) → tableJudged b ≡ Accepted → tableWith c m b ≡ acceptedTable c m b
+unfolding tableWith
+table-accepted c m b h = rw h
 
-pub table-refused : (b : List ℕ) {n p : ℕ} → tableJudged b ≡ Refused n p → tableOf b ≡ refusedTable (Refused n p)
-unfolding tableOf
-table-refused b h = rw h
+pub table-refused : (c : Bool) (m : ℕ) (b : List ℕ) {n p : ℕ} → tableJudged b ≡ Refused n p → tableWith c m b ≡ refusedTable c m (Refused n p)
+unfolding tableWith
+table-refused c m b h = rw h
 
 -- ---- where the parts lie
 module _ (b : List ℕ) (h : tableJudged b ≡ Accepted) where

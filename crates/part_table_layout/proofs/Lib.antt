@@ -1,5 +1,6 @@
 pub mod Accepted
 pub mod Bytes
+pub mod Compared
 pub mod Filled
 pub mod Judged
 pub mod Laid

@@ -15,7 +15,7 @@ use Rattle.wire.specs.Search.{first}
 use Rattle.wire.specs.declared.Verdict.{Verdict}
 use Rattle.wire.specs.declared.Verdict.the-variants.{Accepted, Refused}
 use Rattle.part_table_layout.specs.Lookup.{firstNamed, occurrenceNamed, foundIn, occurrenceIn, find, findOccurrence, refusedPart, entryAt, entryIf, partIn, partAt, partIf, occurrenceListed, laterIf, laterPart, occurrenceOf, occurrenceData}
-use Rattle.part_table_layout.specs.Table.{hasName, stoodEarlier, mayRepeat, borne, occurrenceAt, countOf, offsetAt, nameAt, sizeAt, dataAt, gapAt, filled, tableJudged, acceptedTable, tableIf, tableOf}
+use Rattle.part_table_layout.specs.Table.{hasName, stoodEarlier, mayRepeat, borne, occurrenceAt, countOf, offsetAt, nameAt, sizeAt, dataAt, gapAt, filled, tableJudged, acceptedTable, tableIf, tableWith}
 use Rattle.part_table_layout.specs.declared.Found.{Found}
 use Rattle.part_table_layout.specs.declared.Found.the-variants.{At, Nothing}
 use Rattle.part_table_layout.specs.declared.Part.{Part}
@@ -248,32 +248,32 @@ module _ (t : Table) (x o : ℕ) where
     in-found e = let q = sym hf ∙ e in rw (h, q)
 
 -- the table that was read of a file gives the file's parts
-entry-is : (b : List ℕ) → countOf b ≤ 96 → (f : Found) (x o : ℕ) → findOccurrence b x o ≡ f → entryAt (acceptedTable b) f ≡ partAt b f
-entry-is b few Nothing x o h = refl
-entry-is b few (At k) x o h =
+entry-is : (c : Bool) (m : ℕ) (b : List ℕ) → countOf b ≤ 96 → (f : Found) (x o : ℕ) → findOccurrence b x o ≡ f → entryAt (acceptedTable c m b) f ≡ partAt b f
+entry-is c m b few Nothing x o h = refl
+entry-is c m b few (At k) x o h =
     let l = occurrence-told b x o k h .listed in
     let e1 = filled-below (offsetAt b) (countOf b) k few l in
     let e2 = filled-below (sizeAt b) (countOf b) k few l in
     rw (e1, e2)
 
-pub part-in-file : (b : List ℕ) (x o : ℕ) → partIn (tableOf b) x o ≡ occurrenceOf b x o
-unfolding partIn tableOf occurrenceOf
-part-in-file b x o = go (tableJudged b) refl
+pub part-in-file : (c : Bool) (m : ℕ) (b : List ℕ) (x o : ℕ) → partIn (tableWith c m b) x o ≡ occurrenceOf b x o
+unfolding partIn tableWith occurrenceOf
+part-in-file c m b x o = go (tableJudged b) refl
   where
-    go : (v : Verdict) → tableJudged b ≡ v → entryIf (tableIf v b .verdict) (tableIf v b) x o ≡ partIf v b x o
+    go : (v : Verdict) → tableJudged b ≡ v → entryIf (tableIf c m v b .verdict) (tableIf c m v b) x o ≡ partIf v b x o
     go (Refused n p) e = refl
     go Accepted e =
         let few = accepted-told b e .header .few in
-        rw (found-in-table b x o few) (entry-is b few (findOccurrence b x o) x o refl)
+        rw (found-in-table b x o few) (entry-is c m b few (findOccurrence b x o) x o refl)
 
 -- what the table that was read shows of part k beside its name, offset and size
-module _ (b : List ℕ) (h : tableJudged b ≡ Accepted) (k : ℕ) (l : k < countOf b) where
-  pub occurrence-entry : getD (tableOf b .occurrences) k 0 ≡ occurrenceAt (nameAt b) k
-  unfolding tableOf
+module _ (c : Bool) (m : ℕ) (b : List ℕ) (h : tableJudged b ≡ Accepted) (k : ℕ) (l : k < countOf b) where
+  pub occurrence-entry : getD (tableWith c m b .occurrences) k 0 ≡ occurrenceAt (nameAt b) k
+  unfolding tableWith
   occurrence-entry = let e = filled-below (occurrenceAt (nameAt b)) (countOf b) k (accepted-told b h .header .few) l in rw h e
 
-  pub gap-entry : getD (tableOf b .gaps) k 0 ≡ gapAt b k
-  unfolding tableOf
+  pub gap-entry : getD (tableWith c m b .gaps) k 0 ≡ gapAt b k
+  unfolding tableWith
   gap-entry = let e = filled-below (gapAt b) (countOf b) k (accepted-told b h .header .few) l in rw h e
 
 -- ---- the part with an occurrence, where the first part with the name was looked up

@@ -2,6 +2,7 @@
 -- Assumes nothing.
 use Prim.Native.Nat.{ℕ, _+_, _≤_}
 use mathlib.Core.Path.{_≡_, refl, sym, _∙_, ap}
+use mathlib.Core.Bool.{Bool}
 use mathlib.Core.List.{List}
 use native.Mathlib.Numerals.{add-one}
 use native.Mathlib.Omega.{arith}
@@ -9,7 +10,7 @@ use lib.ListN.{set}
 use Rattle.wire.specs.declared.Verdict.{Verdict}
 use Rattle.wire.specs.declared.Verdict.the-variants.{Accepted, Refused}
 use Rattle.wire.proofs.Verdicts.{then-accepted, each-accepted, stop-then, pass-then}
-use Rattle.part_table_layout.specs.Table.{countOf, offsetAt, nameAt, sizeAt, occurrenceAt, gapAt, headerJudged, partsJudged, tableJudged, filled, refusedTable, tableIf, tableOf}
+use Rattle.part_table_layout.specs.Table.{countOf, offsetAt, nameAt, sizeAt, occurrenceAt, gapAt, headerJudged, partsJudged, tableJudged, filled, refusedTable, tableIf, tableWith}
 use Rattle.part_table_layout.specs.declared.Table.{Table}
 use Rattle.part_table_layout.proofs.Accepted.{name-told}
 use Rattle.part_table_layout.proofs.Filled.{filled-agree}
@@ -17,11 +18,13 @@ use Rattle.part_table_layout.proofs.Judged.{Walked}
 use Rattle.part_table_layout.proofs.Occurrences.{countedAt, counted-is}
 
 -- the table with the entries of the first i parts, whose occurrences come from a counter
-abbrev pub tableTo : List ℕ → ℕ → Table
-tableTo b i =
+abbrev pub tableTo : Bool → ℕ → List ℕ → ℕ → Table
+tableTo c m b i =
     record {
       verdict = Accepted;
       count = countOf b;
+      counted = c;
+      pairs = m;
       names = filled (nameAt b) i;
       offsets = filled (offsetAt b) i;
       sizes = filled (sizeAt b) i;
@@ -29,28 +32,30 @@ tableTo b i =
       gaps = filled (gapAt b) i;
     }
 
-module _ (b : List ℕ) {t : Table} (i : ℕ) (ht : t ≡ tableTo b i) where
+module _ (c : Bool) (m : ℕ) (b : List ℕ) {t : Table} (i : ℕ) (ht : t ≡ tableTo c m b i) where
   pub entry-more : {x s z o g : ℕ} → x ≡ nameAt b i → s ≡ offsetAt b i → z ≡ sizeAt b i → o ≡ countedAt (nameAt b) i → g ≡ gapAt b i
       → record {
         verdict = t .verdict;
         count = t .count;
+        counted = t .counted;
+        pairs = t .pairs;
         names = set (t .names) i x;
         offsets = set (t .offsets) i s;
         sizes = set (t .sizes) i z;
         occurrences = set (t .occurrences) i o;
         gaps = set (t .gaps) i g;
       }
-      ≡ tableTo b (i + 1)
+      ≡ tableTo c m b (i + 1)
   entry-more hx hs hz ho hg = rw (ht, hx, hs, hz, ho, hg, add-one)
 
-verdict-if : (v : Verdict) (b : List ℕ) → tableIf v b .verdict ≡ v
-verdict-if Accepted b = refl
-verdict-if (Refused n p) b = refl
+verdict-if : (c : Bool) (m : ℕ) (v : Verdict) (b : List ℕ) → tableIf c m v b .verdict ≡ v
+verdict-if c m Accepted b = refl
+verdict-if c m (Refused n p) b = refl
 
--- ---- what is shown under the verdict v of 8 and 9
-module _ (b : List ℕ) {v : Verdict} (hv : v ≡ partsJudged b) where
-  pub none-shown : {m p : ℕ} → v ≡ Refused m p → refusedTable v ≡ tableIf (partsJudged b) b
-  none-shown e = rw (← hv, e)
+-- ---- what is shown under the verdict v of 8 and 9, with m pairs
+module _ (c : Bool) {m q : ℕ} (hm : m ≡ q) (b : List ℕ) {v : Verdict} (hv : v ≡ partsJudged b) where
+  pub none-shown : {n p : ℕ} → v ≡ Refused n p → refusedTable c m v ≡ tableIf c q (partsJudged b) b
+  none-shown e = rw (← hv, e, hm)
 
   -- once 9 has passed, what the counter gave are the occurrences
   counted : v ≡ Accepted → filled (countedAt (nameAt b)) (countOf b) ≡ filled (occurrenceAt (nameAt b)) (countOf b)
@@ -60,22 +65,34 @@ module _ (b : List ℕ) {v : Verdict} (hv : v ≡ partsJudged b) where
       filled-agree _ _ (countOf b) (λ k l. counted-is (nameAt b) k (name-told (nameAt b) k (each-accepted _ _ k names l)))
 
   pub all-shown : v ≡ Accepted → {n i end : ℕ} → n ≡ countOf b → Walked b n i end → n ≤ i
-      → {t : Table} → t ≡ tableTo b i → t ≡ tableIf (partsJudged b) b
+      → {d : ℕ} {t : Table} → t ≡ tableTo c d b i
+      → record {
+        verdict = t .verdict;
+        count = t .count;
+        counted = t .counted;
+        pairs = m;
+        names = t .names;
+        offsets = t .offsets;
+        sizes = t .sizes;
+        occurrences = t .occurrences;
+        gaps = t .gaps;
+      }
+      ≡ tableIf c q (partsJudged b) b
   all-shown e {n} {i} hn w g ht =
-      let q : i ≡ countOf b = omega (arith, w .within) in
-      ht ∙ rw (q, counted e, ← hv, e)
+      let last : i ≡ countOf b = omega (arith, w .within) in
+      rw (ht, last, counted e, ← hv, e, hm)
 
 -- 1 to 7, then the parts
-module _ (b : List ℕ) {v : Verdict} (hv : v ≡ headerJudged b) where
-  pub header-refused : {n p : ℕ} → v ≡ Refused n p → refusedTable v ≡ tableOf b
-  unfolding tableOf tableJudged
-  header-refused h = let r = stop-then (headerJudged b) (partsJudged b) _ _ (sym hv ∙ h) in rw (h, ← r)
+module _ (c : Bool) {m q : ℕ} (hm : m ≡ q) (b : List ℕ) {v : Verdict} (hv : v ≡ headerJudged b) where
+  pub header-refused : {n p : ℕ} → v ≡ Refused n p → refusedTable c m v ≡ tableWith c q b
+  unfolding tableWith tableJudged
+  header-refused h = let r = stop-then (headerJudged b) (partsJudged b) _ _ (sym hv ∙ h) in rw (h, ← r, hm)
 
-  pub header-accepted : v ≡ Accepted → tableIf (partsJudged b) b ≡ tableOf b
-  unfolding tableOf tableJudged
-  header-accepted h = ap (λ (w : Verdict). tableIf w b) (pass-then (headerJudged b) (partsJudged b) _ (sym hv ∙ h) refl)
+  pub header-accepted : v ≡ Accepted → tableIf c m (partsJudged b) b ≡ tableWith c q b
+  unfolding tableWith tableJudged
+  header-accepted h = rw hm (ap (λ (w : Verdict). tableIf c q w b) (pass-then (headerJudged b) (partsJudged b) _ (sym hv ∙ h) refl))
 
 -- the verdict that a table shows is that of 1 to 9
-pub verdict-shown : (b : List ℕ) {t : Table} → t ≡ tableOf b → t .verdict ≡ tableJudged b
-unfolding tableOf
-verdict-shown b h = ap (λ (t : Table). t .verdict) h ∙ verdict-if (tableJudged b) b
+pub verdict-shown : (c : Bool) (m : ℕ) (b : List ℕ) {t : Table} → t ≡ tableWith c m b → t .verdict ≡ tableJudged b
+unfolding tableWith
+verdict-shown c m b h = ap (λ (t : Table). t .verdict) h ∙ verdict-if c m (tableJudged b) b

@@ -1,3 +1,4 @@
 pub mod Lookup
+pub mod Pairs
 pub mod Table
 pub mod Three

@@ -1,5 +1,5 @@
 -- The part table of a container, as document 01 has it in "The container" and "Refusal numbers".
-use mathlib.Core.Bool.{Bool, _&&_, _||_, not}
+use mathlib.Core.Bool.{Bool, false, _&&_, _||_, not}
 use mathlib.Core.List.{List, [], _∷_, _++_}
 use Prim.Native.Nat.{ℕ, zero, suc, _+_, _-_, _*_}
 use lib.Dec.{ltb, leb, eqb}
@@ -121,12 +121,15 @@ abbrev pub filled : (ℕ → ℕ) → ℕ → List ℕ
 filled f zero = replicate 96 0
 filled f (suc k) = set (filled f k) k (f k)
 
--- what a reader shows: a refusal has count 0 and zero entries
-abbrev pub refusedTable : Verdict → Table
-refusedTable v =
+-- what a reader shows: a refusal has count 0 and zero entries. Whether it counted the pairs of names that it compared, and their number m, stand
+-- "beside its answer or refusal" (document 02, Ask 12; `Pairs`).
+abbrev pub refusedTable : Bool → ℕ → Verdict → Table
+refusedTable counting m v =
     record {
       verdict = v;
       count = 0;
+      counted = counting;
+      pairs = m;
       names = replicate 96 0;
       offsets = replicate 96 0;
       sizes = replicate 96 0;
@@ -134,11 +137,13 @@ refusedTable v =
       gaps = replicate 96 0;
     }
 
-abbrev pub acceptedTable : List ℕ → Table
-acceptedTable b =
+abbrev pub acceptedTable : Bool → ℕ → List ℕ → Table
+acceptedTable counting m b =
     record {
       verdict = Accepted;
       count = countOf b;
+      counted = counting;
+      pairs = m;
       names = filled (nameAt b) (countOf b);
       offsets = filled (offsetAt b) (countOf b);
       sizes = filled (sizeAt b) (countOf b);
@@ -146,10 +151,14 @@ acceptedTable b =
       gaps = filled (gapAt b) (countOf b);
     }
 
-abbrev pub tableIf : Verdict → List ℕ → Table
-tableIf Accepted b = acceptedTable b
-tableIf (Refused n p) b = refusedTable (Refused n p)
+abbrev pub tableIf : Bool → ℕ → Verdict → List ℕ → Table
+tableIf counting m Accepted b = acceptedTable counting m b
+tableIf counting m (Refused n p) b = refusedTable counting m (Refused n p)
 
 -- the part table of a container, or its refusal
-unfoldable pub tableOf : List ℕ → Table
-tableOf b = tableIf (tableJudged b) b
+unfoldable pub tableWith : Bool → ℕ → List ℕ → Table
+tableWith counting m b = tableIf counting m (tableJudged b) b
+
+-- for who doesn't ask for the pairs
+abbrev pub tableOf : List ℕ → Table
+tableOf b = tableWith false 0 b

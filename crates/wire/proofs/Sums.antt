@@ -3,8 +3,8 @@
 use mathlib.Core.Path.{_≡_, refl}
 use mathlib.Core.Bool.{Bool, true, false}
 use mathlib.Core.Logic.{⊎-elim}
-use Prim.Native.Nat.{ℕ, zero, suc, _+_, _≤_, _<_}
-use native.Mathlib.Nat.{le-of-suc-le-suc, eq-or-lt-of-le}
+use Prim.Native.Nat.{ℕ, zero, suc, _+_, _-_, _*_, _/_, _≤_, _<_}
+use native.Mathlib.Nat.{le-of-suc-le-suc, eq-or-lt-of-le, mul-suc, suc-mul}
 use native.Mathlib.Omega.{arith}
 use Rattle.wire.specs.Sum.{sumBelow, countBelow}
 
@@ -15,6 +15,38 @@ sum-agree f g (suc n) h =
     let r = sum-agree f g n (λ k l. h k (omega arith)) in
     let e = h n (omega arith) in
     omega arith
+
+-- ---- 0 + 1 + .. below n
+pub sum-begin : (f : ℕ → ℕ) → sumBelow f 0 ≡ 0
+unfolding sumBelow
+sum-begin f = refl
+
+pub sum-more : (f : ℕ → ℕ) (n : ℕ) → sumBelow f (suc n) ≡ sumBelow f n + f n
+unfolding sumBelow
+sum-more f n = refl
+
+pub sum-grows : (f : ℕ → ℕ) (m n : ℕ) → m ≤ n → sumBelow f m ≤ sumBelow f n
+sum-grows f m zero h = let e : m ≡ 0 = omega arith in rw e (omega arith)
+sum-grows f m (suc n) h =
+    ⊎-elim (λ e. rw e (omega arith))
+    (λ l. let r = sum-grows f m n (le-of-suc-le-suc l) in let s = sum-more f n in omega arith)
+    (eq-or-lt-of-le h)
+
+doubled : (n : ℕ) → 2 * sumBelow (λ k. k) (suc n) ≡ suc n * n
+unfolding sumBelow
+doubled zero = refl
+doubled (suc n) =
+    let r = doubled n in
+    let e = suc-mul (suc n) (suc n) in
+    let d = mul-suc (suc n) n in
+    omega arith
+
+pub triangle : (n : ℕ) → sumBelow (λ k. k) n ≡ n * (n - 1) / 2
+triangle zero = sum-begin (λ k. k)
+triangle (suc n) =
+    let r = doubled n in
+    let e : suc n - 1 ≡ n = omega arith in
+    rw e (omega arith)
 
 -- ---- counts
 pub count-agree : (p q : ℕ → Bool) (n : ℕ) → ((k : ℕ) → k < n → p k ≡ q k) → countBelow p n ≡ countBelow q n
