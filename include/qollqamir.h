@@ -35,10 +35,11 @@ typedef struct {
    header, whose data start 8 bytes later. PRIV alone may stand more than once: an occurrence is how many earlier parts bear the part's name,
    so 0 for every other name. A gap is how many bytes lie before the part's header, after the part before it or, for the first, after the
    offset table. 32, 4 x count, every gap, every part's 8 + size and the bytes after the last part (with no part, after the offset table)
-   sum to the length. */
+   sum to the length. pairs is set by qollqamir_table_counted alone, beside a refusal too. */
 typedef struct {
     qollqamir_verdict verdict;
     size_t count;
+    qollqamir_field pairs;
     uint32_t names[96];
     uint32_t offsets[96];
     uint32_t sizes[96];
@@ -393,7 +394,7 @@ QOLLQAMIR_NO_PADDING(qollqamir_verdict, QOLLQAMIR_SIZE(qollqamir_verdict, number
 QOLLQAMIR_NO_PADDING(qollqamir_field, QOLLQAMIR_SIZE(qollqamir_field, set) + QOLLQAMIR_SIZE(qollqamir_field, value));
 QOLLQAMIR_NO_PADDING(qollqamir_parts,
                      QOLLQAMIR_SIZE(qollqamir_parts, verdict) + QOLLQAMIR_SIZE(qollqamir_parts, count) +
-                     QOLLQAMIR_SIZE(qollqamir_parts, names) + QOLLQAMIR_SIZE(qollqamir_parts, offsets) +
+                     QOLLQAMIR_SIZE(qollqamir_parts, pairs) + QOLLQAMIR_SIZE(qollqamir_parts, names) + QOLLQAMIR_SIZE(qollqamir_parts, offsets) +
                      QOLLQAMIR_SIZE(qollqamir_parts, sizes) + QOLLQAMIR_SIZE(qollqamir_parts, occurrences) +
                      QOLLQAMIR_SIZE(qollqamir_parts, gaps));
 QOLLQAMIR_NO_PADDING(qollqamir_found,
@@ -585,6 +586,15 @@ enum { QOLLQAMIR_MOST_OPENED = 65535 };
 
 /* The part table alone: 1 to 9. */
 qollqamir_parts qollqamir_table(const uint8_t *bytes, size_t len);
+
+/* The same, and how many pairs of names it compared for 9: for each part in turn, the earlier ones in order, up to and with the first match; a PRIV
+   compared with a PRIV counts and isn't a match. 0 beside 1 to 8; at most n(n - 1)/2 for n parts, so 4560 at most, and exactly that where the
+   table is accepted; beside 9 at part k, k(k - 1)/2 + j + 1 with j the first earlier part of the same name. No more pairs are compared than
+   are counted.
+   Every other call that judges 9 (qollqamir_table, the lookups from the table, qollqamir_open and what opens) reports no pairs: it compares each
+   part's name with all earlier ones, several at once, and stops after the first part that has a match, so k(k + 1)/2 pairs beside 9 at part k.
+   With many parts that is faster. */
+qollqamir_parts qollqamir_table_counted(const uint8_t *bytes, size_t len);
 
 /* The first part with a name, from the part table alone: 1 to 9, then 26. name points to four bytes. */
 qollqamir_found qollqamir_table_part(const uint8_t *bytes, size_t len, const uint8_t *name);

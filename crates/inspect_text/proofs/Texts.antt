@@ -30,8 +30,8 @@ use Rattle.wire.proofs.Stretches.{placed-front}
 
 -- ---- the table that is gone through
 module _ (b : List ℕ) {t : Table} (h : tableJudged b ≡ Accepted) (e : t ≡ tableOf b) where
-  is : t ≡ acceptedTable b
-  is = e ∙ table-accepted b h
+  is : t ≡ acceptedTable false 0 b
+  is = e ∙ table-accepted false 0 b h
 
   few : countOf b ≤ 96
   few = accepted-told b h .header .few

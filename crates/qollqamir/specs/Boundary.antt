@@ -1,5 +1,6 @@
 -- What crosses the boundary, from what the calls answer.
 use mathlib.Core.Path.{_≡_}
+use mathlib.Core.Bool.{Bool, true, false}
 use mathlib.Core.List.{List}
 use Prim.Native.Nat.{ℕ, _+_, _≤_}
 use lib.Dec.{eqb, ltb}
@@ -115,11 +116,17 @@ abbrev pub cField : Field → CField
 cField (Set n) = record { set = 1; value = n }
 cField Unset = record { set = 0; value = 0 }
 
+-- the pairs of names that were compared, for who asked
+abbrev pub pairsField : Bool → ℕ → Field
+pairsField true n = Set n
+pairsField false n = Unset
+
 unfoldable pub cTable : Table → CTable
 cTable t =
     record {
       verdict = cVerdict (t .verdict);
       count = t .count;
+      pairs = cField (pairsField (t .counted) (t .pairs));
       names = t .names;
       offsets = t .offsets;
       sizes = t .sizes;

@@ -60,6 +60,7 @@ ghost use Rattle.dxil_layout.specs.Program.{programOf};
 ghost use Rattle.dxil_report_layout.specs.Reported.{programReportOf};
 ghost use Rattle.figures_layout.specs.Figures.{started, added, joined};
 ghost use Rattle.part_table_layout.specs.Lookup.{partOf, occurrenceOf};
+ghost use Rattle.part_table_layout.specs.Pairs.{tableAsked, countedOf};
 ghost use Rattle.part_table_layout.specs.Table.{tableOf};
 ghost use Rattle.places_layout.specs.Answers.{shownBy, infoBy, resourceBy, elementBy, lengthsBy};
 ghost use Rattle.places_layout.specs.Placed.{openedPlaces};
@@ -76,7 +77,7 @@ ghost use Rattle.settings_layout.specs.Given as settingsWriting;
 ghost use Rattle.settings_layout.specs.Shown.{settingsOf, rowAnswerOf, rowAloneOf, settingAnswerOf};
 ghost use Rattle.signature_layout.specs.Signature.{signatureOf, elementOf, aloneOf, viewOf as nameView};
 ghost use Rattle.wire.specs.Number.{u32At};
-ghost use Rattle.qollqamir.specs.Boundary.{cVerdict, cField, cTable, cPart, cOpening, cPsvOpening, cOpened, cPsvOpened, placedSection, cInfo, cResource, cElement, cLengths, isString, pointsNumber, cSpan, cWritten, cReplaced, cAssembly, stagesNumber, cHeader, cProgram, cReport, cSignature, cSignatureReport, nameParts, cSignatureElement, cDifference, partNumbered, noPart, reportNumbered, elementNumbered, differenceNumbered, cRoot, cRootReport, parameterFields, cItem, cRange, cSettings, cSettingsRow, cSettingsRowAlone, settingField, cSetting, cSettingsWritten, additionNumber, additionVerdict, cAdded, joiningNumber, cJoined, viewOf, sectionNumbered, sectionVerdict, sectionShown, CShows};
+ghost use Rattle.qollqamir.specs.Boundary.{cVerdict, cField, pairsField, cTable, cPart, cOpening, cPsvOpening, cOpened, cPsvOpened, placedSection, cInfo, cResource, cElement, cLengths, isString, pointsNumber, cSpan, cWritten, cReplaced, cAssembly, stagesNumber, cHeader, cProgram, cReport, cSignature, cSignatureReport, nameParts, cSignatureElement, cDifference, partNumbered, noPart, reportNumbered, elementNumbered, differenceNumbered, cRoot, cRootReport, parameterFields, cItem, cRange, cSettings, cSettingsRow, cSettingsRowAlone, settingField, cSetting, cSettingsWritten, additionNumber, additionVerdict, cAdded, joiningNumber, cJoined, viewOf, sectionNumbered, sectionVerdict, sectionShown, CShows};
 
 // A verdict: the refusal's number, 0 where the call accepts, and its place.
 #[repr(C)]
@@ -99,6 +100,7 @@ const UNSET: CField = CField { set: 0, value: 0 };
 pub struct CTable {
     pub verdict: CVerdict,
     pub count: usize,
+    pub pairs: CField,
     pub names: [u32; 96],
     pub offsets: [u32; 96],
     pub sizes: [u32; 96],
@@ -630,6 +632,19 @@ fn no_element(number: u8, place: usize) -> CElement
     }
 }
 
+// The pairs of names that were compared, for who asked.
+fn c_pairs(counted: bool, pairs: u32) -> CField
+    ensures { λ r. ⌜ r ≡ cField (pairsField counted pairs) ⌝ }
+{
+    if counted {
+        return CField {
+            set: 1,
+            value: pairs,
+        };
+    }
+    UNSET
+}
+
 fn c_table(t: Table) -> CTable
     ensures { λ r. ⌜ r ≡ cTable t ⌝ }
 {
@@ -642,6 +657,7 @@ fn c_table(t: Table) -> CTable
     CTable {
         verdict: c_verdict(v),
         count: t.count,
+        pairs: c_pairs(t.counted, t.pairs),
         names,
         offsets,
         sizes,
@@ -1301,12 +1317,27 @@ fn c_joined(a: JoinAnswer) -> CJoined
     }
 }
 
+// One function for both calls below: compiled once, the table is copied once less than where each reads it.
+fn table_asked(b: &[u8], counting: bool) -> CTable
+    ensures { λ r. ⌜ r ≡ cTable (tableAsked counting (now (b .entry))) ⌝ }
+{
+    c_table(part_table::read_with(b, counting))
+}
+
 // The part table, 1 to 9.
 #[no_mangle]
 pub extern "C" fn qollqamir_table(b: &[u8]) -> CTable
     ensures { λ r. ⌜ r ≡ cTable (tableOf (now (b .entry))) ⌝ }
 {
-    c_table(part_table::read(b))
+    table_asked(b, false)
+}
+
+// The part table, 1 to 9, and how many pairs of names were compared.
+#[no_mangle]
+pub extern "C" fn qollqamir_table_counted(b: &[u8]) -> CTable
+    ensures { λ r. ⌜ r ≡ cTable (countedOf (now (b .entry))) ⌝ }
+{
+    table_asked(b, true)
 }
 
 // The first part with a name, from the table alone: 1 to 9, then 26.

@@ -32,10 +32,11 @@ structs! {
         value: u32,
     }
 
-    /// A part table; entries from `count` on are 0.
+    /// A part table; entries from `count` on are 0. `pairs` is set by `table_counted` alone.
     Parts {
         verdict: Verdict,
         count: usize,
+        pairs: Field,
         names: [u32; 96],
         offsets: [u32; 96],
         sizes: [u32; 96],
@@ -382,6 +383,7 @@ mod archive {
 
     extern "C" {
         pub fn qollqamir_table(bytes: *const u8, len: usize) -> Parts;
+        pub fn qollqamir_table_counted(bytes: *const u8, len: usize) -> Parts;
         pub fn qollqamir_table_part(bytes: *const u8, len: usize, name: *const u8) -> Found;
         pub fn qollqamir_table_part_occurrence(bytes: *const u8, len: usize, name: *const u8, occurrence: usize) -> Found;
         pub fn qollqamir_known(name: *const u8) -> bool;
@@ -495,6 +497,8 @@ macro_rules! readers {
 readers! {
     /// The part table alone: 1 to 9.
     table => qollqamir_table() -> Parts;
+    /// The same, with the pairs of names that it compared.
+    table_counted => qollqamir_table_counted() -> Parts;
     /// Opens a container: 25, 1 to 24.
     open => qollqamir_open(edition: usize) -> Opening;
     /// Opens a container at edition 3, the newest.

@@ -95,6 +95,16 @@ pub struct Entry<'a> {
     pub gap: usize,
 }
 
+/// A part table, or its refusal, 1 to 9, and beside it how many pairs of names its reader compared.
+#[derive(Clone, Debug, PartialEq, Eq)]
+pub struct CountedTable<'a> {
+    /// What [`table`] gives.
+    pub table: Result<Vec<Entry<'a>>, Refusal>,
+    /// For each part in turn, the earlier ones in order, up to and with the first match; a PRIV compared with a PRIV counts and isn't a match.
+    /// 0 beside 1 to 8, and n(n - 1)/2 for a table of n parts that is accepted, so 4,560 at most.
+    pub pairs: usize,
+}
+
 /// A string of the file, without its zero. The reader accepts well-formed UTF-8 alone, by the Unicode Standard's table, which is what `str` asks for.
 #[derive(Clone, Copy, Debug, PartialEq, Eq, Hash)]
 pub struct Text<'a> {
@@ -328,7 +338,28 @@ fn lengths_of(lengths: raw::Lengths) -> Lengths {
 
 /// The part table alone: refusals 1 to 9.
 pub fn table(bytes: &[u8]) -> Result<Vec<Entry<'_>>, Refusal> {
-    let parts = raw::table(bytes);
+    entries(bytes, raw::table(bytes))
+}
+
+/// The part table alone, and how many pairs of names were compared for it. With many parts [`table`], which doesn't count, is faster: it compares
+/// each name with all earlier ones, several at once.
+///
+/// ```
+/// use qollqamir::{assemble, table_counted};
+///
+/// let mut out = [0; 128];
+/// let len = assemble(b"PRIVSFI0PRIV", &[1, 0, 2], b"abb", &[0; 16], &mut out)?;
+///
+/// let counted = table_counted(&out[..len]);
+/// assert_eq!((counted.table?.len(), counted.pairs), (3, 3));
+/// # Ok::<(), qollqamir::Refusal>(())
+/// ```
+pub fn table_counted(bytes: &[u8]) -> CountedTable<'_> {
+    let parts = raw::table_counted(bytes);
+    CountedTable { table: entries(bytes, parts), pairs: parts.pairs.value as usize }
+}
+
+fn entries(bytes: &[u8], parts: raw::Parts) -> Result<Vec<Entry<'_>>, Refusal> {
     judged(parts.verdict)?;
     Ok((0..parts.count)
         .map(|number| {

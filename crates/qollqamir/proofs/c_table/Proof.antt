@@ -5,7 +5,7 @@ use Rattle.qollqamir.proofs.c_table.Tie as tie
 
 returns : tie.Need-returns
 unfolding cTable
-returns c = rw (c .c-verdict .ensures)
+returns c = rw (c .before .c-verdict .ensures, c .c-pairs .ensures)
 
 pub c-table-spec : {M : Type 1} → statement M
 c-table-spec = tie.close (tie.spec
