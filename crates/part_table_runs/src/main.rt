@@ -26,9 +26,9 @@ fn refused(n: u8, place: usize) {
     number(place as u64);
 }
 
-// What a slice is read as: its number of parts, or its refusal.
+// What a slice is read as: its number of parts, or its refusal, and the pairs of names that were compared.
 fn verdict(b: &[u8]) {
-    let t = part_table::read(b);
+    let t = part_table::read_with(b, true);
     let v = t.verdict;
     match v {
         Verdict::Refused(n, place) => refused(n, place),
@@ -37,6 +37,8 @@ fn verdict(b: &[u8]) {
             number(t.count as u64);
         }
     }
+    print(b" pairs");
+    word(t.pairs);
     print(b"\n");
 }
 
@@ -250,6 +252,17 @@ fn entry(t: Table, k: usize) {
     }
 }
 
+// Whether a table that was read has its pairs counted, and their number.
+fn pairs(t: Table) {
+    if t.counted {
+        print(b"counted:");
+    } else {
+        print(b"not counted:");
+    }
+    word(t.pairs);
+    print(b"\n");
+}
+
 fn table(b: &[u8; 2048], n: usize) -> Table {
     part_table::read(front(b, n))
 }
@@ -262,12 +275,16 @@ fn entries() {
     entry(t, 1);
     entry(t, 2);
     entry(t, 95);
+    pairs(t);
+    pairs(part_table::read_with(front(&b, 56), true));
     put(&mut b, 48, 1);
     let r = table(&b, 56);
     print(b"refused:");
     number(r.count as u64);
     print(b"\n");
     entry(r, 0);
+    pairs(r);
+    pairs(part_table::read_with(front(&b, 56), true));
 }
 
 fn bytes(b: &[u8]) {

@@ -21,7 +21,7 @@ ghost use mathlib.Core.Path.{_≡_};
 ghost use Prim.Native.Nat.{_+_, _≤_};
 ghost use lib.ListN.{length};
 ghost use Rattle.wire.specs.declared.Verdict.the-variants.{Accepted};
-ghost use Rattle.part_table_layout.specs.Table.{tableOf};
+ghost use Rattle.part_table_layout.specs.Pairs.{countedOf};
 
 // ---- bytes and values
 
@@ -134,6 +134,8 @@ fn parts(t: Table) {
     let n = t.count;
     text(b"parts ");
     number(n);
+    text(b"\npairs ");
+    number(t.pairs as usize);
     text(b"\n");
     let mut i = 0;
     while i < 96 {
@@ -153,7 +155,7 @@ fn parts(t: Table) {
 
 // The first part with a name, in the table t of the bytes b.
 fn part_of(b: &[u8], t: Table, name: &[u8; 4]) -> Part
-    requires { ⌜ t ≡ tableOf (now b) ⌝ }
+    requires { ⌜ t ≡ countedOf (now b) ⌝ }
     ensures { λ r. ⌜ (r .verdict ≡ Accepted → r .offset + 8 + r .size ≤ length (now (b .entry))) ⌝ }
 {
     part_table::part_in(t, name, 0)
@@ -418,7 +420,7 @@ fn program_in(d: &[u8], psv0_stage: Field) {
 }
 
 fn program(b: &[u8], t: Table, p: SectionPlaces)
-    requires { ⌜ t ≡ tableOf (now b) ⌝ }
+    requires { ⌜ t ≡ countedOf (now b) ⌝ }
 {
     let part = part_of(b, t, b"DXIL");
     let d = data(b, part);
@@ -514,7 +516,7 @@ fn signature_in(d: &[u8], b: &[u8], p: SectionPlaces, part: SignaturePart) {
 }
 
 fn signature_of(b: &[u8], t: Table, part: SignaturePart) -> Part
-    requires { ⌜ t ≡ tableOf (now b) ⌝ }
+    requires { ⌜ t ≡ countedOf (now b) ⌝ }
     ensures { λ r. ⌜ (r .verdict ≡ Accepted → r .offset + 8 + r .size ≤ length (now (b .entry))) ⌝ }
 {
     match part {
@@ -525,7 +527,7 @@ fn signature_of(b: &[u8], t: Table, part: SignaturePart) -> Part
 }
 
 fn signature_part(b: &[u8], t: Table, p: SectionPlaces, part: SignaturePart)
-    requires { ⌜ t ≡ tableOf (now b) ⌝ }
+    requires { ⌜ t ≡ countedOf (now b) ⌝ }
 {
     let found = signature_of(b, t, part);
     let d = data(b, found);
@@ -688,7 +690,7 @@ fn root_in(d: &[u8]) {
 }
 
 fn root(b: &[u8], t: Table)
-    requires { ⌜ t ≡ tableOf (now b) ⌝ }
+    requires { ⌜ t ≡ countedOf (now b) ⌝ }
 {
     let part = part_of(b, t, b"RTS0");
     let d = data(b, part);
@@ -705,7 +707,7 @@ fn root(b: &[u8], t: Table)
 // A container that opened: its part table, by which the other parts' data are found, and the places p that the opening handed back, by which all that
 // is shown of PSV0 is read.
 fn dump(b: &[u8], p: SectionPlaces) {
-    let table = part_table::read(b);
+    let table = part_table::read_with(b, true);
     parts(table);
     runtime(b, p);
     let a = places::lengths(b, p);

@@ -10,7 +10,7 @@ returns c h =
     let s = c .before .before in
     let b = s .args .b .now in
     let x = u32At (s .args .name .now) 0 in
-    read-inside b x 0 (c .part-in .ensures ∙ rw (s .pre) (part-in-file b x 0)) h
+    read-inside b x 0 (c .part-in .ensures ∙ rw (s .pre) (part-in-file true _ b x 0)) h
 
 pub part-of-spec : {M : Type 1} → statement M
 part-of-spec = tie.close (tie.spec
