@@ -4,6 +4,7 @@
 // machine that slows down for a while disturbs less.
 #include "qollqamir.h"
 #include <algorithm>
+#include <alloca.h>
 #include <chrono>
 #include <cstdio>
 #include <cstdlib>
@@ -42,6 +43,11 @@ using Call = std::function<void(size_t)>;
 static int rounds = 15;
 static double round_ns = 2e6;
 
+// How far down the stack a round's calls stand. What an answer of 2 KB costs depends on where its copies lie beside each other, so where such
+// answers are compared, each round stands elsewhere.
+static size_t depth = 0;
+static bool spread = false;
+
 static void require(bool holds, const std::string &what) {
     if (!holds) {
         fprintf(stderr, "bench: %s\n", what.c_str());
@@ -52,6 +58,8 @@ static void require(bool holds, const std::string &what) {
 // Runs a call n times. What it answers is kept from the optimizer.
 template <class F> static Call repeat(F f) {
     return [f](size_t n) {
+        volatile char *above = static_cast<char *>(alloca(depth + 1));
+        *above = 0;
         for (size_t i = 0; i < n; i++) {
             auto answer = f();
             asm volatile("" : : "r"(&answer) : "memory");
@@ -96,10 +104,13 @@ static Times measure(const std::vector<Call> &calls) {
             n *= 2;
         times[c] = n;
     }
-    for (int r = 0; r < rounds; r++)
+    for (int r = 0; r < rounds; r++) {
+        depth = spread ? 272 * size_t(r) : 0;
         for (size_t c = 0; c < calls.size(); c++)
             if (calls[c])
                 all.rounds[c].push_back(once(calls[c], times[c]) / times[c]);
+    }
+    depth = 0;
     return all;
 }
 
@@ -424,10 +435,10 @@ static void refusals(const std::filesystem::path &shader) {
     refusal_table({"S odd", "edition 4"}, {calls_on_psv0(odd, 3), calls_on_psv0(psv0, 4)});
 }
 
-// 96 parts: DXIL and PSV0 after 94 with names of their own, or with one name.
-static Bytes many_parts(size_t data, const char *one_name = nullptr) {
+// So many parts: DXIL and PSV0 after others with names of their own, or with one name.
+static Bytes many_parts(size_t data, const char *one_name = nullptr, int count = 96) {
     Parts p;
-    for (int i = 0; i < 94; i++) {
+    for (int i = 0; i < count - 2; i++) {
         char name[8];
         snprintf(name, sizeof name, "P%03d", i);
         p.add(one_name ? one_name : name, Bytes(data, 1));
@@ -992,7 +1003,37 @@ static void replacing(const std::filesystem::path &folder) {
     }
 }
 
-// What handing back 1,944 bytes costs: the table of a file that the first check refuses, beside a call that hands back 40.
+// The name check: the opening, which doesn't report, and the table, without and with the pairs counted. Where a name stands twice, part k has the
+// name of part j.
+static void name_check() {
+    struct Case {
+        int count, j, k;
+    };
+    printf("\nthe name check, ns a call, parts without data\n");
+    printf("%-34s %11s %11s %11s %11s\n", "", "pairs", "open", "the table", "counted");
+    spread = true;
+    for (auto [count, j, k] : {Case{2, 0, 0}, {8, 0, 0}, {16, 0, 0}, {32, 0, 0}, {96, 0, 0}, {8, 0, 5}, {8, 4, 5}, {96, 0, 93}, {96, 92, 93}}) {
+        Bytes b = many_parts(0, nullptr, count);
+        auto parts = qollqamir_table(b.data(), b.size());
+        if (k)
+            put(b, parts.offsets[k], parts.names[j]);
+        auto counted = qollqamir_table_counted(b.data(), b.size());
+        require(counted.verdict.number == (k ? 9u : 0u) && counted.verdict.place == size_t(k), "the verdict of the name check");
+        int pairs = k ? k * (k - 1) / 2 + j + 1 : count * (count - 1) / 2;
+        require(counted.pairs.set == 1 && counted.pairs.value == uint32_t(pairs), "the pairs that are counted");
+        auto t = measure({open_at(b, 3), repeat([&] { return qollqamir_table(b.data(), b.size()); }),
+                          repeat([&] { return qollqamir_table_counted(b.data(), b.size()); })});
+        char name[40];
+        snprintf(name, sizeof name, k ? "%d parts, %d named as %d" : "%d parts", count, k, j);
+        printf("%-34s %11d", name, pairs);
+        for (size_t c = 0; c < 3; c++)
+            cell(t[c]);
+        printf("\n");
+    }
+    spread = false;
+}
+
+// What handing back a table costs: the table of a file that the first check refuses, beside a call that hands back 40.
 static void handing_back(const std::filesystem::path &shader) {
     Bytes b = load(shader);
     const uint8_t *name = reinterpret_cast<const uint8_t *>("PSV0");
@@ -1008,7 +1049,13 @@ static void handing_back(const std::filesystem::path &shader) {
 extern "C" {
 qollqamir_opening before_qollqamir_open(const uint8_t *, size_t, size_t);
 qollqamir_opening before_qollqamir_psv0_open(const uint8_t *, size_t, size_t);
-qollqamir_parts before_qollqamir_table(const uint8_t *, size_t);
+// The table before it had its pairs.
+struct before_parts {
+    qollqamir_verdict verdict;
+    size_t count;
+    uint32_t entries[5][96];
+};
+before_parts before_qollqamir_table(const uint8_t *, size_t);
 qollqamir_found before_qollqamir_table_part(const uint8_t *, size_t, const uint8_t *);
 qollqamir_found before_qollqamir_part(const uint8_t *, size_t, size_t, const uint8_t *);
 qollqamir_info before_qollqamir_runtime_info(const uint8_t *, size_t, size_t);
@@ -1054,7 +1101,11 @@ static void beside_before(const std::filesystem::path &folder) {
     auto lookups = [&](const std::string &files, const Bytes &b) {
         const uint8_t *d = b.data();
         size_t n = b.size();
+        spread = true;
         add(files + ", the table", repeat([=] { return qollqamir_table(d, n); }), repeat([=] { return before_qollqamir_table(d, n); }));
+        add(files + ", the table, counted", repeat([=] { return qollqamir_table_counted(d, n); }),
+            repeat([=] { return before_qollqamir_table(d, n); }));
+        spread = false;
         add(files + ", part of the table", repeat([=] { return qollqamir_table_part(d, n, named); }),
             repeat([=] { return before_qollqamir_table_part(d, n, named); }));
         add(files + ", part", repeat([=] { return qollqamir_part(d, n, 3, named); }),
@@ -1099,6 +1150,9 @@ static void beside_before(const std::filesystem::path &folder) {
         add("size field, open", open_at(b, 3), repeat([&] { return before_qollqamir_open(b.data(), b.size(), 3); }));
         lookups("size field", b);
     }
+    Bytes eight = many_parts(0, nullptr, 8);
+    add("8 parts, empty, open", open_at(eight, 3), repeat([&] { return before_qollqamir_open(eight.data(), eight.size(), 3); }));
+    lookups("8 parts, empty", eight);
     for (size_t data : {0, 64}) {
         Bytes b = many_parts(data);
         std::string files = data ? "96 parts of 64 bytes" : "96 parts, empty";
@@ -1141,6 +1195,7 @@ int main(int argc, char **argv) {
     real_shaders(folder);
     refusals(folder / "sdl_D3D12_VertexShader_YUV.dxbc");
     handing_back(folder / "sdl_D3D12_VertexShader_YUV.dxbc");
+    name_check();
     hostile();
     signatures();
     utf8();

@@ -588,12 +588,11 @@ enum { QOLLQAMIR_MOST_OPENED = 65535 };
 qollqamir_parts qollqamir_table(const uint8_t *bytes, size_t len);
 
 /* The same, and how many pairs of names it compared for 9: for each part in turn, the earlier ones in order, up to and with the first match; a PRIV
-   compared with a PRIV counts and isn't a match. 0 beside 1 to 8; at most n(n - 1)/2 for n parts, so 4560 at most, and exactly that where the
-   table is accepted; beside 9 at part k, k(k - 1)/2 + j + 1 with j the first earlier part of the same name. No more pairs are compared than
-   are counted.
-   Every other call that judges 9 (qollqamir_table, the lookups from the table, qollqamir_open and what opens) reports no pairs: it compares each
-   part's name with all earlier ones, several at once, and stops after the first part that has a match, so k(k + 1)/2 pairs beside 9 at part k.
-   With many parts that is faster. */
+   compared with a PRIV counts and isn't a match. No pair is compared that isn't counted. 0 beside 1 to 8; at most n(n - 1)/2 for n parts, so
+   4560 at most, and exactly that where the table is accepted; beside 9 at part k, k(k - 1)/2 + j + 1, with j the first earlier part of its name.
+   The other calls that judge 9 report no pairs. qollqamir_table, the lookups from the table, qollqamir_open and all that opens compare each
+   part's name with all earlier ones, several at once, and end with the first part that has a match: beside 9 at part k, k(k + 1)/2 pairs. With
+   many parts that is faster. qollqamir_assemble compares each name with the earlier ones up to its first match, PRIV or not. */
 qollqamir_parts qollqamir_table_counted(const uint8_t *bytes, size_t len);
 
 /* The first part with a name, from the part table alone: 1 to 9, then 26. name points to four bytes. */
