@@ -17,7 +17,7 @@ from containers import LONGEST, M, hull
 USAGE, CANNOT_OPEN, TOO_LONG = "usage: show EDITION FILE\n", "cannot open\n", "too long\n"
 NO_EDITION, SHORT = "refused 25 0\n", "refused 1 0\n"
 SHOWN_M = (
-    "edition 0 read 0\nparts 2\npart 0 DXIL 40 4 known occurrence 0 gap 0\npart 1 PSV0 52 32 known occurrence 0 gap 0\nstage_info " + "00" * 16 + "\n"
+    "edition 0 read 0\nparts 2\npairs 1\npart 0 DXIL 40 4 known occurrence 0 gap 0\npart 1 PSV0 52 32 known occurrence 0 gap 0\nstage_info " + "00" * 16 + "\n"
     "minimum_wave_lanes 0\nmaximum_wave_lanes 0\nstage unset\nuses_view_id unset\nmax_vertex_count unset\npatch_vectors unset\n"
     "mesh_topology unset\ninput_elements unset\noutput_elements unset\npatch_elements unset\ninput_vectors unset\n"
     "output_vectors_0 unset\noutput_vectors_1 unset\noutput_vectors_2 unset\noutput_vectors_3 unset\n"
@@ -26,8 +26,8 @@ SHOWN_M = (
     "signature ISG1 refused 26 0\nsignature OSG1 refused 26 0\nsignature PSG1 refused 26 0\nroot_signature refused 26 0\n"
 )
 SHOWN_LONGEST = SHOWN_M.replace(
-    "parts 2\npart 0 DXIL 40 4 known occurrence 0 gap 0\npart 1 PSV0 52 32 known occurrence 0 gap 0\n",
-    "parts 3\npart 0 DXIL 44 4 known occurrence 0 gap 0\npart 1 PSV0 56 32 known occurrence 0 gap 0\n"
+    "parts 2\npairs 1\npart 0 DXIL 40 4 known occurrence 0 gap 0\npart 1 PSV0 52 32 known occurrence 0 gap 0\n",
+    "parts 3\npairs 3\npart 0 DXIL 44 4 known occurrence 0 gap 0\npart 1 PSV0 56 32 known occurrence 0 gap 0\n"
     "part 2 PRIV 96 65432 known occurrence 0 gap 0\n",
 )
 FILES = {"m": M, "empty": b"", "longest": LONGEST, "too-long": LONGEST + b"\0"}
