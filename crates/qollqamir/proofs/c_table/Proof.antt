@@ -10,4 +10,5 @@ returns c = rw (c .before .c-verdict .ensures, c .c-pairs .ensures)
 pub c-table-spec : {M : Type 1} → statement M
 c-table-spec = tie.close (tie.spec
     (λ c κs. search needs)
+    (λ c κs. search needs)
     returns)
