@@ -1,6 +1,7 @@
 pub mod Accepted
 pub mod Bytes
 pub mod Compared
+pub mod Counting
 pub mod Filled
 pub mod Judged
 pub mod Laid

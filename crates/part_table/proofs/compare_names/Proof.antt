@@ -3,7 +3,7 @@ use mathlib.Core.Path.{sym}
 use native.Mathlib.Omega.{arith}
 use lib.ListN.{getD}
 use borrow.Author.Needs.{needs}
-use Rattle.part_table_layout.proofs.Compared.{Compared, compare-begin, compared-few, compare-on, compare-stops, compare-ends, compare-done}
+use Rattle.part_table_layout.proofs.Counting.{Compared, compare-begin, compared-few, compare-on, compare-stops, compare-ends, compare-done}
 use Rattle.part_table.proofs.compare_names.Statement.{statement}
 use Rattle.part_table.proofs.compare_names.Tie as tie
 

@@ -2,7 +2,7 @@ use mathlib.Core.Path.{sym, _∙_}
 use borrow.Author.Needs.{needs}
 use Rattle.part_table_layout.specs.Table.{countOf}
 use Rattle.part_table_layout.proofs.Accepted.{header-told}
-use Rattle.part_table_layout.proofs.Compared.{header-pairs, parts-pairs}
+use Rattle.part_table_layout.proofs.Counting.{header-pairs, parts-pairs}
 use Rattle.part_table_layout.proofs.Readings.{header-refused, header-accepted}
 use Rattle.part_table.proofs.read_with.Statement.{statement}
 use Rattle.part_table.proofs.read_with.Tie as tie

@@ -2,7 +2,7 @@ use Prim.Native.Nat.{_-_}
 use mathlib.Core.Logic.{⊎-elim}
 use borrow.Author.Needs.{needs}
 use borrow.Author.Tests.{not-true, not-false}
-use Rattle.part_table_layout.proofs.Compared.{Against, against-none, against-other, against-repeated, against-match, against-all}
+use Rattle.part_table_layout.proofs.Counting.{Against, against-none, against-other, against-repeated, against-match, against-all}
 use Rattle.part_table.proofs.walk.Statement.{statement}
 use Rattle.part_table.proofs.walk.Tie as tie
 
