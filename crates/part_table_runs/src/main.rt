@@ -267,6 +267,10 @@ fn table(b: &[u8; 2048], n: usize) -> Table {
     part_table::read(front(b, n))
 }
 
+fn counted(b: &[u8; 2048], n: usize) -> Table {
+    part_table::read_with(front(b, n), true)
+}
+
 fn entries() {
     let mut b = [0u8; 2048];
     many(&mut b, 2);
@@ -276,7 +280,7 @@ fn entries() {
     entry(t, 2);
     entry(t, 95);
     pairs(t);
-    pairs(part_table::read_with(front(&b, 56), true));
+    pairs(counted(&b, 56));
     put(&mut b, 48, 1);
     let r = table(&b, 56);
     print(b"refused:");
@@ -284,7 +288,7 @@ fn entries() {
     print(b"\n");
     entry(r, 0);
     pairs(r);
-    pairs(part_table::read_with(front(&b, 56), true));
+    pairs(counted(&b, 56));
 }
 
 fn bytes(b: &[u8]) {
