@@ -1,6 +1,6 @@
 /* Calls the library through its C header: the boxes M and C of document 01, the last field of every struct, the three writers, several
-   private parts, the program header, the signature parts, the root signature, the settings files, the figures and the section places of
-   document 02, every byte of the answers of every call, null pointers. */
+   private parts, the program header, the signature parts, the root signature, the settings files, the figures, the section places and the
+   pairs of names of document 02, every byte of the answers of every call, null pointers. */
 #include "qollqamir.h"
 
 #include <stdio.h>
@@ -180,10 +180,12 @@ static void same_found(qollqamir_found got, qollqamir_found expected) { CHECK(me
 #define NOT_FOUND(n, p) ((qollqamir_found){.verdict = {n, p}})
 
 /* A table that passes, beside the bytes: each entry is what stands there, the occurrence and the gap are counted anew, nothing is set past
-   the count, and the sum is the length. Each part is found by its name and occurrence, and none past the last one of its name. */
+   the count, no pairs are, and the sum is the length. Each part is found by its name and occurrence, and none past the last one of its
+   name. */
 static void table_holds(const qollqamir_parts *parts, const uint8_t *bytes, size_t len) {
     size_t count = get32(bytes + 28), end = 32 + 4 * count, sum = end;
     CHECK(parts->count == count && count <= 96);
+    UNSET(parts->pairs);
     for (size_t i = 0; i < count; i++) {
         size_t offset = get32(bytes + 32 + 4 * i), size = get32(bytes + offset + 4), earlier = 0, all = 0;
         const uint8_t *four = bytes + offset;
@@ -208,7 +210,36 @@ static void table_holds(const qollqamir_parts *parts, const uint8_t *bytes, size
     CHECK(memcmp(parts->gaps + count, none, rest) == 0);
 }
 
-/* Reads a table and checks all of it, beside a refusal too. */
+/* The pairs of names that are compared for 9: for each part in turn, the earlier ones in order, and a match ends the count; none where an
+   earlier check refuses. The verdict on the bytes is 9 at the part that matches, 0 where none does. */
+static uint32_t pairs_of(qollqamir_verdict verdict, const uint8_t *bytes) {
+    if (verdict.number >= 1 && verdict.number <= 8) {
+        return 0;
+    }
+    uint32_t pairs = 0;
+    size_t count = get32(bytes + 28);
+    for (size_t k = 0; k < count; k++) {
+        const uint8_t *four = bytes + get32(bytes + 32 + 4 * k);
+        for (size_t j = 0; j < k; j++) {
+            pairs++;
+            if (memcmp(four, bytes + get32(bytes + 32 + 4 * j), 4) == 0 && memcmp(four, "PRIV", 4) != 0) {
+                CHECK(verdict.number == 9 && verdict.place == k && pairs <= count * (count - 1) / 2);
+                return pairs;
+            }
+        }
+    }
+    CHECK(verdict.number == 0 && pairs == count * (count - 1) / 2);
+    return pairs;
+}
+
+/* The table with its pairs counted, beside a refusal too; all else is as without. */
+static qollqamir_parts shown_counted(const uint8_t *bytes, size_t len) {
+    qollqamir_parts parts = qollqamir_table(bytes, len);
+    parts.pairs = (qollqamir_field){1, pairs_of(parts.verdict, bytes)};
+    return parts;
+}
+
+/* Reads a table, also with its pairs counted, and checks all of it, beside a refusal too. */
 static qollqamir_parts read_table(const uint8_t *bytes, size_t len) {
     qollqamir_parts parts = qollqamir_table(bytes, len), nothing = {.verdict = parts.verdict};
     if (parts.verdict.number == 0) {
@@ -216,6 +247,9 @@ static qollqamir_parts read_table(const uint8_t *bytes, size_t len) {
     } else {
         CHECK(memcmp(&parts, &nothing, sizeof parts) == 0);
     }
+    qollqamir_parts with_pairs = qollqamir_table_counted(bytes, len), expected = shown_counted(bytes, len);
+    SET(with_pairs.pairs, expected.pairs.value);
+    CHECK(memcmp(&with_pairs, &expected, sizeof expected) == 0);
     return parts;
 }
 
@@ -935,6 +969,201 @@ static void test_greatest_length(void) {
     REFUSED(read_table(bytes, GREATEST + 1), 2, 0);
     for (size_t occurrence = 0; occurrence < 2; occurrence++) {
         finds(bytes, GREATEST + 1, "PRIV", occurrence, NOT_FOUND(2, 0));
+    }
+}
+
+/* ---- the pairs of names that are compared */
+
+/* The table gives this verdict, and so many pairs beside it. */
+static void compares(const uint8_t *bytes, size_t len, size_t number, size_t place, size_t pairs) {
+    REFUSED(read_table(bytes, len), number, place);
+    qollqamir_parts parts = qollqamir_table_counted(bytes, len);
+    REFUSED(parts, number, place);
+    SET(parts.pairs, pairs);
+}
+
+/* A container of so many parts without data, each of another name, end to end; and the length of one with 96. */
+enum { NAMED = 32 + 12 * 96 };
+static size_t put_named(uint8_t *out, uint32_t count) {
+    uint8_t names[97][4];
+    struct entry entries[97];
+    for (uint32_t i = 0; i < count; i++) {
+        put32(names[i], 0x41414100 + i);
+        entries[i] = (struct entry){.name = (const char *)names[i], .data = ""};
+    }
+    return lay_out(out, entries, count, 0);
+}
+
+/* Names a part, or several in a row from one on. */
+static void name_part(uint8_t *bytes, size_t i, const void *four) { put(bytes + get32(bytes + 32 + 4 * i), four, 4); }
+
+static void name_parts(uint8_t *bytes, size_t from, size_t to, const void *four) {
+    for (size_t i = from; i < to; i++) {
+        name_part(bytes, i, four);
+    }
+}
+
+/* Names by letters, where P is PRIV; every number of parts that passes, and one too many. */
+static void test_pairs(void) {
+    static const struct { const char *letters; size_t number, place, pairs; } cases[] = {
+        {"", 0, 0, 0}, {"a", 0, 0, 0}, {"ab", 0, 0, 1}, {"abc", 0, 0, 3}, {"abcdefgh", 0, 0, 28},
+        {"aa", 9, 1, 1}, {"aab", 9, 1, 1}, {"aba", 9, 2, 2}, {"abb", 9, 2, 3}, {"abcdefga", 9, 7, 22}, {"abcdefgg", 9, 7, 28},
+        /* Several matches: the first part that has one ends the count. */
+        {"aaa", 9, 1, 1}, {"aaaaaaaa", 9, 1, 1}, {"abab", 9, 2, 2}, {"abba", 9, 2, 3}, {"abcab", 9, 3, 4}, {"abcca", 9, 3, 6},
+        {"abcbcb", 9, 3, 5}, {"abcdeed", 9, 5, 15},
+        /* A PRIV with a PRIV counts and ends nothing: alone, before a match, between its parts, after it. */
+        {"P", 0, 0, 0}, {"PP", 0, 0, 1}, {"PPP", 0, 0, 3}, {"PPPPPPPP", 0, 0, 28}, {"PaPbPc", 0, 0, 15},
+        {"PPaa", 9, 3, 6}, {"aPPa", 9, 3, 4}, {"aaPP", 9, 1, 1}, {"PaPa", 9, 3, 5}, {"aPaP", 9, 2, 2}, {"PaPaP", 9, 3, 5},
+        {"PaPaPaP", 9, 3, 5}, {"aPbPbPa", 9, 4, 9}, {"PPPaPPPaPPP", 9, 7, 25},
+    };
+    uint8_t bytes[NAMED + 12];
+    for (size_t i = 0; i < sizeof cases / sizeof *cases; i++) {
+        size_t count = strlen(cases[i].letters), len = put_named(bytes, (uint32_t)count);
+        for (size_t k = 0; k < count; k++) {
+            const char four[4] = {'N', 'O', '.', cases[i].letters[k]};
+            name_part(bytes, k, four[3] == 'P' ? "PRIV" : four);
+        }
+        compares(bytes, len, cases[i].number, cases[i].place, cases[i].pairs);
+    }
+    for (uint32_t count = 0; count <= 96; count++) {
+        compares(bytes, put_named(bytes, count), 0, 0, count * (count - 1) / 2);
+    }
+    compares(bytes, NAMED, 0, 0, 4560);
+    name_parts(bytes, 0, 96, "PRIV");
+    compares(bytes, NAMED, 0, 0, 4560);
+    compares(bytes, put_named(bytes, 97), 6, 0, 0);
+
+    /* Every way to name six parts by four names: the rule has the number. */
+    static const char *const names[4] = {"DXIL", "PSV0", "PRIV", "PRIW"};
+    size_t len = put_named(bytes, 6), passed = 0;
+    for (unsigned way = 0; way < 4096; way++) {
+        for (size_t i = 0; i < 6; i++) {
+            name_part(bytes, i, names[way >> 2 * i & 3]);
+        }
+        passed += read_table(bytes, len).verdict.number == 0;
+    }
+    /* Each of the three others stands once or not at all. */
+    CHECK(passed == 1 + 6 * 3 + 15 * 6 + 20 * 6);
+}
+
+/* Every pair of 96 parts as the one match, among other names and among private parts; then private parts before, between and after one. */
+static void test_pairs_one_match(void) {
+    uint8_t bytes[NAMED], was[2][4];
+    for (int private_parts = 0; private_parts < 2; private_parts++) {
+        size_t len = put_named(bytes, 96), pairs = 0;
+        name_parts(bytes, 0, private_parts ? 96 : 0, "PRIV");
+        for (size_t k = 0; k < 96; k++) {
+            for (size_t j = 0; j < k; j++) {
+                put(was[0], bytes + 416 + 8 * j, 4);
+                put(was[1], bytes + 416 + 8 * k, 4);
+                name_part(bytes, j, "DXIL");
+                name_part(bytes, k, "DXIL");
+                compares(bytes, len, 9, k, k * (k - 1) / 2 + j + 1);
+                CHECK(++pairs == k * (k - 1) / 2 + j + 1);
+                name_part(bytes, j, was[0]);
+                name_part(bytes, k, was[1]);
+            }
+        }
+        CHECK(pairs == 4560);
+        compares(bytes, len, 0, 0, 4560);
+    }
+    for (unsigned set = 0; set < 8; set++) {
+        size_t len = put_named(bytes, 96);
+        name_parts(bytes, 0, set & 1 ? 40 : 0, "PRIV");
+        name_parts(bytes, 41, set & 2 ? 70 : 0, "PRIV");
+        name_parts(bytes, 71, set & 4 ? 96 : 0, "PRIV");
+        compares(bytes, len, 0, 0, 4560);
+        name_part(bytes, 40, "DXIL");
+        name_part(bytes, 70, "DXIL");
+        compares(bytes, len, 9, 70, 2456);
+        /* One more of the name, and another name twice, later. */
+        name_part(bytes, 80, "DXIL");
+        name_part(bytes, 81, "PSV0");
+        name_part(bytes, 82, "PSV0");
+        compares(bytes, len, 9, 70, 2456);
+    }
+}
+
+/* Names one bit away from PRIV and from another name, which they don't match; twice, each is refused. At different places in memory. */
+static void test_pairs_one_bit(void) {
+    uint8_t room[16 + 32 + 12 * 8];
+    for (uint32_t bit = 0; bit < 32; bit++) {
+        uint8_t *bytes = room + bit % 16, near[4], other[4];
+        size_t len = put_named(bytes, 8);
+        put32(near, get32(name("PRIV")) ^ (uint32_t)1 << bit);
+        put32(other, get32(name("DXIL")) ^ (uint32_t)1 << bit);
+        for (size_t k = 0; k < 8; k++) {
+            name_parts(bytes, 0, 8, "PRIV");
+            name_part(bytes, k, near);
+            compares(bytes, len, 0, 0, 28);
+            for (size_t j = 0; j < k; j++) {
+                name_part(bytes, j, near);
+                compares(bytes, len, 9, k, k * (k - 1) / 2 + j + 1);
+                name_part(bytes, j, "DXIL");
+                name_part(bytes, k, other);
+                compares(bytes, len, 0, 0, 28);
+                name_part(bytes, j, "PRIV");
+                name_part(bytes, k, near);
+            }
+        }
+    }
+}
+
+/* Each refusal before 9 has 0 pairs, whatever the names: different, one name, private. */
+static void test_pairs_refused(void) {
+    uint8_t bytes[NAMED];
+    compares(NULL, 0, 1, 0, 0);
+    for (int names = 0; names < 3; names++) {
+        size_t len = put_named(bytes, 96);
+        const size_t number = names == 1 ? 9 : 0, place = names == 1, pairs = names == 1 ? 1 : 4560;
+        name_parts(bytes, 0, names == 0 ? 0 : 96, names == 1 ? "DXIL" : "PRIV");
+        compares(bytes, len, number, place, pairs);
+        for (size_t n = 0; n < len; n++) {
+            compares(bytes, n, n < 32 ? 1 : 5, 0, 0);
+        }
+        /* The magic, the version and the file size. */
+        for (size_t i = 0; i < 28; i++) {
+            if (i < 4 || i >= 20) {
+                bytes[i] ^= 0x10;
+                compares(bytes, len, i < 4 ? 3 : i < 24 ? 4 : 5, 0, 0);
+                bytes[i] ^= 0x10;
+            }
+        }
+        put32(bytes + 28, 97);
+        compares(bytes, len, 6, 0, 0);
+        put32(bytes + 28, UINT32_MAX);
+        compares(bytes, len, 6, 0, 0);
+        put32(bytes + 28, 96);
+        for (uint32_t n = 32; n < 416; n++) {
+            put32(bytes + 24, n);
+            compares(bytes, n, 7, 0, 0);
+        }
+        put32(bytes + 24, (uint32_t)len);
+        compares(bytes, len, number, place, pairs);
+        /* Each part a byte too early, with its header past the end, with its data past the end; or the one before a byte too long. */
+        for (uint32_t i = 0; i < 96; i++) {
+            uint32_t offset = 416 + 8 * i, end = (uint32_t)len;
+            const uint32_t offsets[] = {offset - 1, 0, end - 7, end, UINT32_MAX}, sizes[] = {end - offset - 7, UINT32_MAX};
+            for (size_t k = 0; k < sizeof offsets / sizeof *offsets; k++) {
+                put32(bytes + 32 + 4 * i, offsets[k]);
+                compares(bytes, len, 8, i, 0);
+            }
+            put32(bytes + 32 + 4 * i, offset);
+            for (size_t k = 0; k < sizeof sizes / sizeof *sizes; k++) {
+                put32(bytes + offset + 4, sizes[k]);
+                compares(bytes, len, 8, i, 0);
+            }
+            put32(bytes + offset + 4, 1);
+            compares(bytes, len, 8, i < 95 ? i + 1 : 95, 0);
+            put32(bytes + offset + 4, 0);
+        }
+        compares(bytes, len, number, place, pairs);
+        /* The greatest length, and one byte more. */
+        put(greatest, bytes, len);
+        put32(greatest + 24, GREATEST);
+        compares(greatest, GREATEST, number, place, pairs);
+        put32(greatest + 24, GREATEST + 1);
+        compares(greatest, GREATEST + 1, 2, 0, 0);
     }
 }
 
@@ -3364,7 +3593,7 @@ static size_t box_placed(uint8_t *out, size_t way, const uint8_t *psv0, size_t l
    those on PSV0 data alone stand in the order of those on containers, and so do those by places; a call that takes an occurrence follows
    the one that takes none. The answers of those from CALLS on don't begin with a verdict. */
 enum call {
-    TABLE, TABLE_PART, TABLE_PART_OCCURRENCE, KNOWN, OPEN_DEFAULT, PART, PART_OCCURRENCE, PROGRAM,
+    TABLE, TABLE_COUNTED, TABLE_PART, TABLE_PART_OCCURRENCE, KNOWN, OPEN_DEFAULT, PART, PART_OCCURRENCE, PROGRAM,
     SIGNATURE, SIGNATURE_ELEMENT, SIGNATURE_NAME, SIGNATURE_DIFFERENCE, ROOT, ROOT_ITEM, ROOT_RANGE,
     OPEN, INFO, RESOURCE, ELEMENT, LENGTHS, VIEW, SECTION, OPEN_PLACES,
     PSV0_OPEN, PSV0_INFO, PSV0_RESOURCE, PSV0_ELEMENT, PSV0_LENGTHS, PSV0_VIEW, PSV0_SECTION, PSV0_OPEN_PLACES,
@@ -3425,6 +3654,7 @@ __attribute__((noinline)) static size_t answer(const struct question *q, uint8_t
 #define ROWS (const uint32_t *)(const void *)b, n / sizeof(uint32_t)
     switch (q->call) {
     case TABLE: ANSWER(qollqamir_parts, qollqamir_table(b, n))
+    case TABLE_COUNTED: ANSWER(qollqamir_parts, qollqamir_table_counted(b, n))
     case TABLE_PART: ANSWER(qollqamir_found, qollqamir_table_part(b, n, four))
     case TABLE_PART_OCCURRENCE: ANSWER(qollqamir_found, qollqamir_table_part_occurrence(b, n, four, i))
     case KNOWN: ANSWER(bool, qollqamir_known(four))
@@ -3555,7 +3785,7 @@ static size_t rows_of(const struct question *q, uint32_t *rows) {
     return numbers;
 }
 
-/* What the rules give for a question on settings files, rows, figures or places; nothing for any other. */
+/* What the rules give for a question on pairs of names, settings files, rows, figures or places; nothing for any other. */
 static size_t ruled(const struct question *q, uint8_t *to) {
     uint32_t rows[250];
 #define PIECES(i) q->bytes + start(q, i), start(q, i + 1) - start(q, i)
@@ -3565,6 +3795,7 @@ static size_t ruled(const struct question *q, uint8_t *to) {
         return put(to, &a, sizeof a); \
     }
     switch (q->call) {
+    case TABLE_COUNTED: RULED(qollqamir_parts, shown_counted(q->bytes, q->len))
     case SETTINGS_READ: RULED(qollqamir_settings, shown_settings(q->bytes, q->len))
     case SETTINGS_ROW: RULED(qollqamir_setting_row, shown_row(q->bytes, q->len, q->number))
     case SETTINGS_VALUE: RULED(qollqamir_setting, shown_value(q->bytes, q->len, q->kind, (uint32_t)q->number))
@@ -3619,9 +3850,9 @@ static size_t result_of(const struct question *q, const uint8_t *answer) {
 
 /* Asks twice and compares. The second time the stack and the answer's place hold another pattern, and the bytes, the output and the stack
    are at other addresses: what stood in memory before would differ, and an address too. The bytes and figures stay as they are, and so does
-   the output but for a result. Beside a refusal all is 0; a refused answer is also compared with the first that has the same call, number
-   and place. An accepted table, an assembled container and one with other PSV0 data are checked as a whole, and every answer on settings
-   files, figures and places against the rules. */
+   the output but for a result. Beside a refusal all is 0 but pairs of names that were counted; but for those, a refused answer is also
+   compared with the first that has the same call, number and place. An accepted table, an assembled container and one with other PSV0 data
+   are checked as a whole, and every answer on pairs of names, settings files, figures and places against the rules. */
 static qollqamir_verdict ask(const struct question *question) {
     static const uint8_t patterns[4] = {0x00, 0xa5, 0xff, 0x5a};
     static uint8_t answers[2][sizeof(qollqamir_parts)], outs[2][1000], stood[1000];
@@ -3668,6 +3899,9 @@ static qollqamir_verdict ask(const struct question *question) {
         }
     }
     same("the answer and the rules", answers[0], rules, rules_len);
+    if (q->call == TABLE_COUNTED) {
+        memset(answers[0] + offsetof(qollqamir_parts, pairs), 0, sizeof(qollqamir_field));
+    }
 
     qollqamir_verdict verdict = {0, 0};
     if (q->call == KNOWN) {
@@ -3685,7 +3919,7 @@ static qollqamir_verdict ask(const struct question *question) {
     memcpy(&verdict, answers[0], sizeof verdict);
     if (verdict.number == 0) {
         accepted[q->call]++;
-        if (q->call == TABLE) {
+        if (q->call == TABLE || q->call == TABLE_COUNTED) {
             qollqamir_parts parts;
             memcpy(&parts, answers[0], sizeof parts);
             table_holds(&parts, q->bytes, q->len);
@@ -3728,6 +3962,7 @@ static qollqamir_verdict ask(const struct question *question) {
 /* What is asked of a container; from OPEN on, of PSV0 data alone too. */
 static const struct question queries[] = {
     {.call = TABLE},
+    {.call = TABLE_COUNTED},
     {.call = TABLE_PART, .name = "PSV0"},
     {.call = TABLE_PART, .name = "VERS"},
     {.call = TABLE_PART, .name = "PRIV"},
@@ -4233,7 +4468,7 @@ static void test_every_byte(void) {
        test_greatest_length, test_figures_refusals and test_replace_order have. */
     for (size_t number = 1; number < NUMBERS; number++) {
         bool in_table = number <= 9 && number != 2, opening = in_table || (number >= 10 && number <= 25);
-        CHECK(gave(TABLE, number) == in_table);
+        CHECK(gave(TABLE, number) == in_table && gave(TABLE_COUNTED, number) == in_table);
         CHECK(gave(TABLE_PART, number) == (in_table || number == 26) && gave(TABLE_PART_OCCURRENCE, number) == (in_table || number == 26));
         CHECK(gave(PART, number) == (opening || number == 26) && gave(PART_OCCURRENCE, number) == (opening || number == 26));
         CHECK((counted[number] > 0) == opening);
@@ -4259,7 +4494,7 @@ static void test_every_byte(void) {
         }
         CHECK(!signature || refusals[call][52][0].answer_len > 0);
     }
-    CHECK(triples >= 1370);
+    CHECK(triples >= 1384);
     printf("c answers: %zu calls made twice; %zu refused answers equal to that of another file, of %zu calls, numbers and places\n", asked,
            paired, triples);
 }
@@ -4992,6 +5227,10 @@ int main(void) {
     test_many_private();
     test_assembled_private();
     test_greatest_length();
+    test_pairs();
+    test_pairs_one_match();
+    test_pairs_one_bit();
+    test_pairs_refused();
     test_strings();
     test_program();
     test_signature();

@@ -1,5 +1,5 @@
 //! The boxes M and C of document 01 through the safe calls, the program header, the signature parts, the root signature, the strings,
-//! several private parts, the settings files and the figures of document 02, and the last field of every struct.
+//! several private parts, the settings files, the figures and the pairs of names of document 02, and the last field of every struct.
 
 use qollqamir::*;
 
@@ -87,6 +87,8 @@ fn box_m_is_accepted_as_edition_0() {
     assert_eq!(Container::open(&bytes, 4), refused(25, 0));
     assert_eq!(Container::open(&bytes[..31], 0), refused(1, 0));
     assert_eq!(table(&bytes[..91]), refused(5, 0));
+    compares(&bytes, 1);
+    compares(&bytes[..91], 0);
 }
 
 #[test]
@@ -227,6 +229,7 @@ fn shows_parts(bytes: &[u8], parts: &[Laid<'_>], after: usize) {
     assert!(entries.iter().all(|e| e.part.data.as_ptr() == bytes[e.part.offset + 8..].as_ptr()));
     let taken: usize = entries.iter().map(|e| e.gap + 8 + e.part.data.len()).sum();
     assert_eq!(32 + 4 * entries.len() + taken + after, bytes.len());
+    compares(bytes, (0..parts.len()).sum());
 
     let containers: Vec<_> = (0..=3).filter_map(|edition| Container::open(bytes, edition).ok()).collect();
     for name in parts.iter().map(|part| *part.name).chain([PRIV, *b"HASH", *b"priv"]) {
@@ -316,6 +319,8 @@ fn any_other_name_stands_once() {
             assert_eq!(raw::part_occurrence(&bytes, 3, &name, 1).verdict, raw::Verdict { number: 9, place: 3 });
         }
         assert_eq!(Container::open(&bytes, 3), refused(9, 3));
+        // One pair for the second part, two for the third, two for the fourth, which matches the second.
+        compares(&bytes, 5);
         // Beside a refusal nothing is shown.
         let nothing = [0; 96];
         let shown = raw::table(&bytes);
@@ -374,6 +379,115 @@ fn private_parts_up_to_the_greatest_number() {
     // Another name twice, far apart.
     let names = [&b"DXIL"[..], &PRIV.repeat(94), b"DXIL"].concat();
     assert_eq!(assemble(&names, &[1; 96], &data[..96], &[7; 16], &mut out), refused(9, 95));
+}
+
+/// So many pairs of names are compared; but for them both calls on the table show the same, beside a refusal too.
+fn compares(bytes: &[u8], pairs: usize) {
+    assert_eq!(table_counted(bytes), CountedTable { table: table(bytes), pairs });
+    let shown = raw::table(bytes);
+    assert_eq!(shown.pairs, raw::Field { set: 0, value: 0 });
+    assert_eq!(raw::table_counted(bytes), raw::Parts { pairs: raw::Field { set: 1, value: pairs as u32 }, ..shown });
+}
+
+/// A container of parts without data, end to end. Each byte stands for another name, P for PRIV.
+fn named(letters: &[u8]) -> Vec<u8> {
+    let names: Vec<_> = letters.iter().map(|&letter| if letter == b'P' { PRIV } else { [b'N', b'O', b'.', letter] }).collect();
+    lay_out(&names.iter().map(|name| laid(name, 0, 0, 0, b"")).collect::<Vec<_>>(), 0)
+}
+
+#[test]
+fn pairs_of_names_are_counted() {
+    let many: Vec<u8> = (100..196).collect();
+    let passing: [(&[u8], usize); 9] = [
+        (b"", 0),
+        (b"a", 0),
+        (b"ab", 1),
+        (b"abcdefgh", 28),
+        (&many, 4560),
+        (b"PP", 1),
+        (b"PPPPPPPP", 28),
+        (b"PaPbPc", 15),
+        (&[b'P'; 96], 4560),
+    ];
+    for (letters, pairs) in passing {
+        let bytes = named(letters);
+        let counted = table_counted(&bytes);
+        assert_eq!((counted.table.unwrap().len(), counted.pairs), (letters.len(), pairs));
+        compares(&bytes, pairs);
+    }
+
+    // The match counts and ends the count; of several, that of the first part that has one, with the first that it matches. A PRIV compared
+    // with a PRIV counts and ends nothing.
+    let twice: [(&[u8], usize, usize); 14] = [
+        (b"aa", 1, 1),
+        (b"aba", 2, 2),
+        (b"abb", 2, 3),
+        (b"abcdefga", 7, 22),
+        (b"abcdefgg", 7, 28),
+        (b"aaaa", 1, 1),
+        (b"abab", 2, 2),
+        (b"abba", 2, 3),
+        (b"abcbcb", 3, 5),
+        (b"PPaa", 3, 6),
+        (b"aPPa", 3, 4),
+        (b"aaPP", 1, 1),
+        (b"PaPaP", 3, 5),
+        (b"PPPaPPPaPPP", 7, 25),
+    ];
+    for (letters, place, pairs) in twice {
+        let bytes = named(letters);
+        assert_eq!(table_counted(&bytes), CountedTable { table: refused(9, place), pairs });
+        compares(&bytes, pairs);
+    }
+    // A name one bit away from PRIV doesn't match it, and may not stand again.
+    for bit in 0..32 {
+        let near = (u32::from_le_bytes(PRIV) ^ 1 << bit).to_le_bytes();
+        let mut parts = [&PRIV, &near, &PRIV, &PRIV].map(|name| laid(name, 0, 0, 0, b""));
+        compares(&lay_out(&parts, 0), 6);
+        parts[2].name = &near;
+        assert_eq!(table_counted(&lay_out(&parts, 0)), CountedTable { table: refused(9, 2), pairs: 3 });
+    }
+    // The one match of 96 parts, of other names and private.
+    for (j, k, pairs) in [(0, 1, 1), (0, 95, 4466), (94, 95, 4560), (40, 70, 2456), (0, 94, 4372), (93, 94, 4465)] {
+        for mut letters in [many.clone(), vec![b'P'; 96]] {
+            letters[j] = b'a';
+            letters[k] = b'a';
+            let bytes = named(&letters);
+            assert_eq!(table_counted(&bytes), CountedTable { table: refused(9, k), pairs });
+            compares(&bytes, pairs);
+        }
+    }
+}
+
+#[test]
+fn no_pairs_are_compared_before_9() {
+    // Three parts of one name, at 44, 52 and 60, end to end.
+    let bytes = named(b"aaa");
+    assert_eq!(bytes.len(), 68);
+    compares(&bytes, 1);
+    let mut longer = changed(bytes.clone(), 24, 16_777_217);
+    longer.resize(16_777_217, 0);
+    let faults = [
+        (vec![], 1, 0),
+        (bytes[..31].to_vec(), 1, 0),
+        (longer, 2, 0),
+        (changed(bytes.clone(), 0, 0), 3, 0),
+        (changed(bytes.clone(), 20, 2), 4, 0),
+        (changed(bytes.clone(), 24, 69), 5, 0),
+        (bytes[..67].to_vec(), 5, 0),
+        (changed(bytes.clone(), 28, 97), 6, 0),
+        (changed(bytes.clone(), 28, 10), 7, 0),
+        (changed(bytes.clone(), 32, 43), 8, 0),
+        (changed(bytes.clone(), 48, 17), 8, 0),
+        (changed(bytes.clone(), 36, 51), 8, 1),
+        (changed(bytes.clone(), 56, 9), 8, 1),
+        (changed(bytes.clone(), 40, 59), 8, 2),
+        (changed(bytes.clone(), 64, 1), 8, 2),
+    ];
+    for (bytes, number, place) in faults {
+        assert_eq!(table_counted(&bytes), CountedTable { table: refused(number, place), pairs: 0 });
+        compares(&bytes, 0);
+    }
 }
 
 #[test]
