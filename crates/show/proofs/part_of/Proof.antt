@@ -1,4 +1,5 @@
 use mathlib.Core.Path.{_∙_}
+use mathlib.Core.Bool.{true}
 use borrow.Author.Needs.{needs}
 use Rattle.wire.specs.Number.{u32At}
 use Rattle.part_table_layout.proofs.Lookups.{part-in-file, read-inside}
