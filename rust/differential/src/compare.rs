@@ -11,7 +11,7 @@ use crate::entries::at_least;
 use crate::make::get4;
 use crate::random::Random;
 use crate::strings::{ends_entry_name, Notes, Sections, Way};
-use crate::{entries, figures, places, replace, roots, settings, signatures};
+use crate::{entries, figures, pairs, places, replace, roots, settings, signatures};
 
 /// A difference, and the bytes it was seen on.
 #[derive(Debug)]
@@ -40,6 +40,7 @@ pub(crate) use same;
 #[derive(Clone, Copy)]
 pub enum Call {
     Table,
+    Counted,
     TablePart,
     Part,
     Open,
@@ -98,8 +99,9 @@ const REPORTED: &[u8] = opening_and!(26, 43, 44, 45, 52);
 const ROOTED: &[u8] = opening_and!(26, 46, 47, 48, 49, 50, 51);
 
 /// The calls, and the numbers that each can give.
-pub const CALLS: [(&str, &[u8]); 45] = [
+pub const CALLS: [(&str, &[u8]); 46] = [
     ("table", &[1, 2, 3, 4, 5, 6, 7, 8, 9]),
+    ("counted", &[1, 2, 3, 4, 5, 6, 7, 8, 9]),
     ("table part", &[1, 2, 3, 4, 5, 6, 7, 8, 9, 26]),
     ("part", opening_and!(26)),
     ("open", opening_and!()),
@@ -367,7 +369,8 @@ pub const EDGES: [&str; 9] = [
 ];
 
 /// How often each call gave each verdict (0: it accepted), and at which places; how often each of `SEEN` came, and of `EDGES` in a
-/// reading and in a writer; what the strings, the tables' entries, the settings files, the figures and the places were, and what was replaced.
+/// reading and in a writer; what the strings, the tables' entries and pairs of names, the settings files, the figures and the places were, and
+/// what was replaced.
 pub struct Hits {
     pub counts: [[u64; NUMBERS]; CALLS.len()],
     pub places: [[BTreeSet<usize>; NUMBERS]; CALLS.len()],
@@ -376,6 +379,7 @@ pub struct Hits {
     pub edges_written: [u64; EDGES.len()],
     pub strings: Notes,
     pub entries: entries::Notes,
+    pub pairs: pairs::Notes,
     pub settings: settings::Notes,
     pub figures: figures::Notes,
     pub placed: places::Notes,
@@ -392,6 +396,7 @@ impl Default for Hits {
             edges_written: [0; EDGES.len()],
             strings: Notes::default(),
             entries: entries::Notes::default(),
+            pairs: pairs::Notes::default(),
             settings: settings::Notes::default(),
             figures: figures::Notes::default(),
             placed: places::Notes::default(),
@@ -469,10 +474,11 @@ pub fn field(value: Option<u32>) -> raw::Field {
     raw::Field { set: value.is_some().into(), value: value.unwrap_or(0) }
 }
 
-fn parts_of(answer: &Result<Vec<reference::Part>, Refusal>) -> raw::Parts {
+/// A table without the pairs of names, which are unset.
+pub fn parts_of(answer: &Result<Vec<reference::Part>, Refusal>) -> raw::Parts {
     let none = [0; 96];
-    let verdict = verdict_of(answer);
-    let mut parts = raw::Parts { verdict, count: 0, names: none, offsets: none, sizes: none, occurrences: none, gaps: none };
+    let (verdict, pairs) = (verdict_of(answer), field(None));
+    let mut parts = raw::Parts { verdict, count: 0, pairs, names: none, offsets: none, sizes: none, occurrences: none, gaps: none };
     for part in answer.as_deref().unwrap_or(&[]) {
         parts.names[parts.count] = u32::from_le_bytes(part.name);
         parts.offsets[parts.count] = part.offset as u32;
@@ -752,27 +758,25 @@ pub fn numbers(random: &mut Random, count: usize) -> Vec<usize> {
     numbers
 }
 
-/// All of a table is compared, entries past the count too. Of a difference the entry is told.
-fn same_table(bytes: &[u8], got: &raw::Parts, expected: &raw::Parts) -> Check {
+/// All of a table is compared, entries past the count too. Of a difference the verdict, the number or the entry is told.
+pub fn same_table(bytes: &[u8], got: &raw::Parts, expected: &raw::Parts, what: &str) -> Check {
     if got == expected {
         return Ok(());
     }
-    same!(bytes, got.count, expected.count, "count of the table");
+    same!(bytes, got.verdict, expected.verdict, "{what}");
+    same!(bytes, got.count, expected.count, "count of the {what}");
+    same!(bytes, got.pairs, expected.pairs, "pairs of the {what}");
     for i in 0..96 {
         let entry = |t: &raw::Parts| [t.names[i], t.offsets[i], t.sizes[i], t.occurrences[i], t.gaps[i]];
-        same!(bytes, entry(got), entry(expected), "name, offset, size, occurrence and gap of entry {i}");
+        same!(bytes, entry(got), entry(expected), "name, offset, size, occurrence and gap of entry {i} of the {what}");
     }
-    same!(bytes, got, expected, "table");
+    same!(bytes, got, expected, "{what}");
     Ok(())
 }
 
 /// The table calls on any bytes.
 pub fn table(random: &mut Random, bytes: &[u8], hits: &mut Hits) -> Check {
-    let expected = reference::table(bytes);
-    let got = raw::table(bytes);
-    hits.note(Call::Table, got.verdict);
-    same!(bytes, got.verdict, verdict_of(&expected), "table");
-    same_table(bytes, &got, &parts_of(&expected))?;
+    let (got, expected) = pairs::table(bytes, hits)?;
     for name in names(random, expected.as_deref().unwrap_or(&[])) {
         let got = raw::table_part(bytes, &name);
         hits.note(Call::Query, got.verdict);

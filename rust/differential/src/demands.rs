@@ -185,6 +185,7 @@ fn kept(bytes: &[u8], widened: &[u8], parts: &Parts, k: usize) -> Check {
             same!(container, shown == data || name == b"PSV0", true, "data of part {name:?} {occurrence} of a widening at {k}");
         }
     }
+    same!(widened, raw::table_counted(widened).pairs, raw::table_counted(bytes).pairs, "pairs of a widening at {k}");
     let count = parts.iter().filter(|part| part.0 == PRIV).count();
     for container in [bytes, widened] {
         let past = raw::part_occurrence(container, k, &PRIV, count).verdict;
@@ -304,6 +305,7 @@ pub fn reassembled(random: &mut Random, bytes: &[u8], hits: &mut Hits) -> Check 
     same!(made, made[4..20], bytes[4..20], "digest");
     let table = raw::table(&made);
     same!(made, (table.verdict.number, table.count), (0, parts.len()), "table of an assembled container");
+    same!(made, raw::table_counted(&made).pairs, raw::table_counted(bytes).pairs, "pairs of an assembled container");
     let mut end = 32 + 4 * parts.len();
     for (i, part) in parts.iter().enumerate() {
         let offset = end.next_multiple_of(4);

@@ -78,7 +78,7 @@ fn entry_of<'a>(bytes: &'a [u8], parts: &[Part], i: usize) -> qollqamir::Entry<'
     qollqamir::Entry { part: part_of(bytes, parts, i), occurrence: parts[i].occurrence as usize, gap: parts[i].gap }
 }
 
-fn entries_of<'a>(bytes: &'a [u8], parts: &[Part]) -> Vec<qollqamir::Entry<'a>> {
+pub fn entries_of<'a>(bytes: &'a [u8], parts: &[Part]) -> Vec<qollqamir::Entry<'a>> {
     (0..parts.len()).map(|i| entry_of(bytes, parts, i)).collect()
 }
 
@@ -192,6 +192,7 @@ pub fn query(random: &mut Random, bytes: &[u8], edition: usize, opening: &Result
 /// The safe container's query, and its parts with a name in turn.
 pub fn wrapped(bytes: &[u8], safe: &qollqamir::Container, opening: &Opening, hits: &mut Hits) -> Check {
     let last = opening.parts.last().map_or(PRIV, |part| part.name);
+    same!(bytes, qollqamir::table_counted(bytes).pairs as u64, opening.pairs, "pairs of an opening");
     for name in [PRIV, *b"DXIL", last, NEAR[0]] {
         let listed: Vec<_> = safe.parts(name).collect();
         in_turn(bytes, name, &listed, &opening.parts, |i| safe.part_occurrence(name, i))?;
@@ -420,21 +421,21 @@ impl Default for Notes {
     }
 }
 
-fn is_priv(name: &[u8; 4]) -> bool {
+pub fn is_priv(name: &[u8; 4]) -> bool {
     *name == PRIV
 }
 
-fn privates(names: &[[u8; 4]]) -> usize {
+pub fn privates(names: &[[u8; 4]]) -> usize {
     names.iter().filter(|name| is_priv(name)).count()
 }
 
 /// The first place of a name other than PRIV that stood earlier.
-fn first_repeat(names: &[[u8; 4]]) -> Option<usize> {
+pub fn first_repeat(names: &[[u8; 4]]) -> Option<usize> {
     (0..names.len()).find(|i| !is_priv(&names[*i]) && names[..*i].contains(&names[*i]))
 }
 
 /// The names of the first parts, so far as they lie inside.
-fn names_in(bytes: &[u8], count: usize) -> Vec<[u8; 4]> {
+pub fn names_in(bytes: &[u8], count: usize) -> Vec<[u8; 4]> {
     let name = |i: usize| {
         let at = bytes.get(32 + 4 * i..36 + 4 * i).map(|offset| get4(offset, 0) as usize)?;
         bytes.get(at..at.checked_add(4)?)?.try_into().ok()

@@ -11,6 +11,7 @@ mod faults;
 mod figures;
 mod lists;
 mod make;
+mod pairs;
 mod places;
 mod random;
 mod records;
@@ -87,6 +88,9 @@ fn main() -> ExitCode {
         if let Err(mismatch) = longest(&mut done.hits) {
             return report(seed, "the longest inputs", mismatch);
         }
+        if let Err(mismatch) = pairs::fixed(seed, &mut done.hits) {
+            return report(seed, "the tables of every run", mismatch);
+        }
         if let Err(mismatch) = settings::fixed(seed) {
             return report(seed, "the settings files of every run", mismatch);
         }
@@ -100,6 +104,7 @@ fn main() -> ExitCode {
     for number in numbers {
         let all = || {
             case(seed, number, &vectors, &mut done)?;
+            pairs::case(seed, number, &mut done.hits)?;
             settings::case(seed, number, &mut done.hits)?;
             figures::case(seed, number, &mut done.hits)?;
             places::case(seed, number, &mut done.hits)?;
@@ -135,8 +140,8 @@ fn report(seed: u64, case: &str, mismatch: Mismatch) -> ExitCode {
 /// Prints how often each number was given, and answers which of those that a call can give were not.
 fn summary(done: &Done) -> Vec<String> {
     let mut missed = Vec::new();
-    // Nine calls to a line.
-    for (calls, counts) in CALLS.chunks(9).zip(done.hits.counts.chunks(9)) {
+    // Ten calls to a line.
+    for (calls, counts) in CALLS.chunks(10).zip(done.hits.counts.chunks(10)) {
         print!("number  ");
         for (name, _) in calls {
             print!("{name:>12}");
@@ -184,6 +189,7 @@ fn summary(done: &Done) -> Vec<String> {
     }
     done.hits.strings.summary(&mut missed);
     done.hits.entries.summary(&mut missed);
+    pairs::summary(&done.hits, &mut missed);
     settings::summary(&done.hits, &mut missed);
     figures::summary(&done.hits, &mut missed);
     places::summary(&done.hits, &mut missed);

@@ -158,6 +158,7 @@ fn looked_at(bytes: &[u8], edition: usize, new: &[u8], made: &[u8], places: &ref
     let (old, table) = (raw::table(bytes), raw::table(made));
     let more = made.len() as i64 - bytes.len() as i64;
     same!(made, (table.verdict.number, table.count), (0, old.count), "the table of a result");
+    same!(made, raw::table_counted(made).pairs, raw::table_counted(bytes).pairs, "pairs of a result");
     same!(
         made,
         (table.names, table.occurrences, table.gaps),
