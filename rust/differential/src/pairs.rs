@@ -310,19 +310,24 @@ fn near(bit: usize) -> [u8; 4] {
     (u32::from_le_bytes(PRIV) ^ 1 << bit).to_le_bytes()
 }
 
+/// So many PRIV parts before, between and after a match: few, half of all, as many as there can be.
+fn arrangements() -> impl Iterator<Item = [usize; 3]> {
+    let some = [0, 1, 2, 3, 31, 47, 92, 93, 94];
+    let all = some.into_iter().flat_map(move |before| some.map(|middle| some.map(|after| [before, middle, after])));
+    all.flatten().filter(|places| places.iter().sum::<usize>() <= MOST - 2)
+}
+
+/// And before, between and after two of a name that is PRIV but for a bit.
+const NEAR_PLACES: [[usize; 3]; 5] = [[0, 0, 1], [0, 1, 0], [1, 0, 0], [2, 3, 2], [60, 20, 14]];
+
 /// PRIV parts before, between and after a match, as many as there can be and fewer; of every name that is PRIV but for a bit, too.
 fn around(random: &mut Random, hits: &mut Hits) -> Check {
-    let some = [0, 1, 2, 3, 31, 47, 92, 93, 94];
-    for before in some {
-        for middle in some {
-            for after in some.into_iter().filter(|after| before + middle + after <= MOST - 2) {
-                let made = between(fresh(random, &[]), [before, middle, after]);
-                whole(random, &made, hits)?;
-            }
-        }
+    for places in arrangements() {
+        let made = between(fresh(random, &[]), places);
+        whole(random, &made, hits)?;
     }
     for name in (0..32).map(near) {
-        for places in [[0, 0, 1], [0, 1, 0], [1, 0, 0], [2, 3, 2], [60, 20, 14]] {
+        for places in NEAR_PLACES {
             whole(random, &between(name, places), hits)?;
         }
         let mut names = vec![PRIV; 1 + random.below(12)];
@@ -496,7 +501,8 @@ circumstances! {
 
 /// What tables came to: of 9 the parts that matched, by the later and the earlier one, and the numbers that were told; how many parts
 /// there were where all pairs were told; how often 1 to 8 were told with no pair, where no two names match and where two do; at which parts
-/// 8; and for which names that are PRIV but for a bit, beside PRIV, 9 was not told, and was.
+/// 8; for which names that are PRIV but for a bit, beside PRIV, 9 was not told, and was; and how many PRIV parts stood before, between and
+/// after two of a name where there was no other part, of any name and of those.
 struct Counts {
     matches: Vec<[u64; MOST]>,
     told: BTreeSet<u32>,
@@ -504,6 +510,8 @@ struct Counts {
     numbers: [[u64; 2]; 8],
     eights: [u64; MOST],
     bits: [[u64; 32]; 2],
+    around: BTreeSet<[usize; 3]>,
+    near: BTreeSet<([usize; 3], usize)>,
     kinds: [u64; KINDS.len()],
 }
 
@@ -516,6 +524,8 @@ impl Default for Counts {
             numbers: [[0; 2]; 8],
             eights: [0; MOST],
             bits: [[0; 32]; 2],
+            around: BTreeSet::new(),
+            near: BTreeSet::new(),
             kinds: [0; KINDS.len()],
         }
     }
@@ -532,6 +542,16 @@ pub struct Notes {
 /// Whether two names differ in one bit.
 fn but_for_a_bit(name: [u8; 4], other: &[u8; 4]) -> bool {
     (u32::from_le_bytes(name) ^ u32::from_le_bytes(*other)).is_power_of_two()
+}
+
+/// The bit but for which a name is PRIV.
+fn bit_of(name: [u8; 4]) -> Option<usize> {
+    (0..32).find(|bit| near(*bit) == name)
+}
+
+/// Whether a name is one of others, PRIV apart, but for a bit.
+fn near_one_of(name: [u8; 4], others: &[[u8; 4]]) -> bool {
+    others.iter().any(|other| !is_priv(other) && but_for_a_bit(name, other))
 }
 
 impl Counts {
@@ -571,7 +591,7 @@ impl Counts {
         self.saw(Kind::MostPriv, count == MOST && privates > 1 && privates < MOST);
         self.saw(Kind::AllPriv, privates == MOST);
         self.saw(Kind::FewerPriv, count < MOST && privates > 1);
-        self.saw(Kind::BitPassed, (1..count).any(|i| names[..i].iter().any(|other| but_for_a_bit(names[i], other))));
+        self.saw(Kind::BitPassed, (1..count).any(|i| !is_priv(&names[i]) && near_one_of(names[i], &names[..i])));
         if privates > 0 {
             names.iter().for_each(|name| self.bit(0, *name));
         }
@@ -590,8 +610,14 @@ impl Counts {
         self.saw(Kind::PrivBetween, middle > 1);
         self.saw(Kind::PrivAfter, later > 1);
         self.saw(Kind::PrivThree, before > 1 && middle > 1 && later > 1);
-        self.saw(Kind::PrivRest, count == MOST && before + middle + later == MOST - 2);
-        self.saw(Kind::BitBefore, names[..k].iter().any(|other| but_for_a_bit(name, other)));
+        if before + middle + later + 2 == count {
+            self.around.insert([before, middle, later]);
+            if let Some(bit) = bit_of(name) {
+                self.near.insert(([before, middle, later], bit));
+            }
+            self.saw(Kind::PrivRest, count == MOST);
+        }
+        self.saw(Kind::BitBefore, near_one_of(name, &names[..k]));
         self.saw(Kind::Thrice, names[k + 1..].contains(&name));
         // The later matches, each with the first part that has the name.
         let mut others = Vec::new();
@@ -608,9 +634,8 @@ impl Counts {
     }
 
     fn bit(&mut self, which: usize, name: [u8; 4]) {
-        if but_for_a_bit(name, &PRIV) {
-            let bit = (u32::from_le_bytes(name) ^ u32::from_le_bytes(PRIV)).trailing_zeros();
-            self.bits[which][bit as usize] += 1;
+        if let Some(bit) = bit_of(name) {
+            self.bits[which][bit] += 1;
         }
     }
 
@@ -687,6 +712,20 @@ pub fn summary(hits: &Hits, missed: &mut Vec<String>) {
         let told = counts.told.len() as u64;
         println!("{of}, numbers beside 9: {told} (to {})", counts.told.last().unwrap_or(&0));
         at_least(&format!("{of}, another number beside 9"), told, if every { all(MOST) } else { 2000 }, missed);
+        let (ways, came) = (arrangements().count(), arrangements().filter(|places| counts.around.contains(places)).count());
+        println!("{of}, 9 among PRIV parts alone: {} ways, {came} of {ways}", counts.around.len());
+        at_least(&format!("{of}, another way of 9 among PRIV parts alone"), came as u64, if every { ways as u64 } else { 40 }, missed);
+        if every {
+            // All other parts are on one side.
+            for places in [[MOST - 2, 0, 0], [0, MOST - 2, 0], [0, 0, MOST - 2]] {
+                at_least(&format!("{of}, 9 with {places:?} PRIV parts"), counts.around.contains(&places).into(), 1, missed);
+            }
+            for places in NEAR_PLACES {
+                let bits = (0..32).filter(|bit| counts.near.contains(&(places, *bit))).count();
+                println!("{of}, 9 for PRIV but for each of {bits} bits, with {places:?} PRIV parts before, between and after");
+                at_least(&format!("{of}, 9 for PRIV but for another bit, with {places:?} PRIV parts"), bits as u64, 32, missed);
+            }
+        }
         print!("{of}, no pair, where no names match and where some do:");
         for (i, (count, least)) in counts.numbers.iter().zip(if every { OF_NUMBER } else { OF_OTHERS }).enumerate() {
             let [other, matching] = count;
