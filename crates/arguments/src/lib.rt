@@ -1,4 +1,6 @@
 // What programs are started with: a number, and a file to read.
+#![tactic(auto)]
+
 ghost use Rattle.io.specs.Counts.{IsPrefixLen};
 
 use words::Named;
@@ -12,7 +14,7 @@ pub fn number(i: usize) -> Named {
 }
 
 // How reading a file went.
-#[derive(Drop)]
+#[derive(Clone, Copy)]
 pub enum Contents {
     Whole,
     TooLong,
@@ -20,7 +22,7 @@ pub enum Contents {
 }
 
 // How it went, and how many bytes were put at the start of the buffer.
-#[derive(Drop)]
+#[derive(Clone, Copy)]
 pub struct FileRead {
     pub contents: Contents,
     pub len: usize,

@@ -1,5 +1,7 @@
 // The container assembler: from names, sizes, data end to end and a digest to a container in the caller's output.
 // Every check is made before the first byte is written.
+#![tactic(auto)]
+
 ghost use Rattle.std.specs.Prelude.{◌≡◌, ◌++◌, ◌+◌, ◌*◌, ◌≤◌, ◌<◌, eqb, length, get_or, replicate};
 ghost use Rattle.wire.specs.Number.{u32_at, le32};
 ghost use Rattle.wire.specs.Verdict.{each};

@@ -1,5 +1,7 @@
 // Assemblies at the edges of each refusal, and results that are read back by the table reader: one line a case, compared with
 // the file stdout.
+#![tactic(auto)]
+
 use libc::STDOUT_FILENO;
 use part_table_layout::Table;
 use wire::Verdict;

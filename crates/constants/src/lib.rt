@@ -1,4 +1,6 @@
 // Constant tables of document 01: the part names that are known and the sizes of the four editions.
+#![tactic(auto)]
+
 ghost use Rattle.std.specs.Prelude.{◌≡◌};
 ghost use Rattle.wire.specs.Number.{u32_at};
 ghost use Rattle.constants.specs.Edition.{size_of, file_edition_of};

@@ -1,5 +1,7 @@
 // The opening of a whole container and the queries on its bytes, above the part table and the PSV0 reader through their promises.
 // A query gives what opening gives, 25, 1 to 9, 10, 11 and 12 to 24, then 26. Beside a refusal nothing of the file is shown.
+#![tactic(auto)]
+
 ghost use Rattle.std.specs.Prelude.{◌≡◌, ◌+◌, ◌≤◌, length, take, drop};
 ghost use Rattle.wire.specs.Number.{u32_at};
 ghost use Rattle.part_table_layout.specs.Three.{three_of};
@@ -19,7 +21,7 @@ use psv0_layout::{
 use wire::Verdict;
 
 // The verdict of an opening, the number of parts, the file's edition and the edition read. A refusal has zeros.
-#[derive(Drop)]
+#[derive(Clone, Copy)]
 pub struct ContainerOpening {
     pub verdict: Verdict,
     pub parts: usize,
@@ -28,7 +30,7 @@ pub struct ContainerOpening {
 }
 
 // The same with the places of the PSV0 sections, as offsets in the container, for queries by them; the edition read is theirs. A refusal has zeros.
-#[derive(Drop)]
+#[derive(Clone, Copy)]
 pub struct ContainerPlaces {
     pub verdict: Verdict,
     pub parts: usize,
@@ -37,7 +39,7 @@ pub struct ContainerPlaces {
 }
 
 // The verdict of what is checked before the PSV0 data, the number of parts, and where the PSV0 data start and end.
-#[derive(Drop)]
+#[derive(Clone, Copy)]
 struct PsvPart {
     verdict: Verdict,
     parts: usize,

@@ -1,4 +1,6 @@
 // The reader of the data of a DXIL part alone: the program header, refusals 40 to 42, and the bitcode as a part of the caller's slice.
+#![tactic(auto)]
+
 ghost use Rattle.std.specs.Prelude.{◌≡◌, []};
 ghost use Rattle.dxil_layout.specs.Program.{header_of, program_judged, no_header, program_if, program_of, bitcode_of};
 

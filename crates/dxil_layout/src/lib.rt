@@ -1,9 +1,11 @@
 // The definitions of the data of a DXIL part (document 02, Ask 1): the program header, the bitcode header in it and the bitcode; the reader is
 // a crate of its own.
+#![tactic(auto)]
+
 use wire::Verdict;
 
 // The fields of the program header and of the bitcode header. A refusal has zeros.
-#[derive(Drop)]
+#[derive(Clone, Copy)]
 pub struct ProgramHeader {
     pub version_major: u32,
     pub version_minor: u32,
@@ -16,7 +18,7 @@ pub struct ProgramHeader {
 }
 
 // The verdict, the fields, and the bitcode as a stretch of the data. A refusal has zeros.
-#[derive(Drop)]
+#[derive(Clone, Copy)]
 pub struct Program {
     pub verdict: Verdict,
     pub header: ProgramHeader,

@@ -1,5 +1,7 @@
 // The report on the DXIL part of a container, above the opening and the reader of DXIL data through their promises: what opening gives, then
 // 40 to 42; the program header, the bitcode, and the stage that PSV0 shows beside the header's. Beside a refusal nothing of the file is shown.
+#![tactic(auto)]
+
 ghost use Rattle.std.specs.Prelude.{◌≡◌, []};
 ghost use Rattle.dxil_report_layout.specs.Reported.{stages_of, report_if, program_report_of, bitcode_reported};
 

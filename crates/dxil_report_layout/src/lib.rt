@@ -1,11 +1,13 @@
 // The definitions of the report on a container's DXIL part (document 02, Ask 1), with the types of its answer, and what is proved of them; the
 // report is a crate of its own.
+#![tactic(auto)]
+
 use dxil_layout::ProgramHeader;
 use psv0_layout::Field;
 use wire::Verdict;
 
 // The program header's stage beside the stage that PSV0 shows.
-#[derive(Drop)]
+#[derive(Clone, Copy)]
 pub enum Stages {
     Equal,
     Different,
@@ -14,7 +16,7 @@ pub enum Stages {
 
 // The verdict, the header's fields, the bitcode as a stretch of the container, the stage that PSV0 shows and how the two stages compare.
 // A refusal has zeros, and both are unset.
-#[derive(Drop)]
+#[derive(Clone, Copy)]
 pub struct ProgramReport {
     pub verdict: Verdict,
     pub header: ProgramHeader,

@@ -1,5 +1,7 @@
 // figures FILE..: opens containers of at most 65,536 bytes one by one at edition 1, and prints how many were opened, accepted and refused, and
 // the counts by refusal number, by the file's edition and by stage.
+#![tactic(auto)]
+
 ghost use Rattle.std.specs.Prelude.{◌≤◌};
 
 use arguments::Contents;

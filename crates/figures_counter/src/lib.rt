@@ -1,5 +1,7 @@
 // The night's figures: started at an edition, one container more, two figures joined. Figures that someone made up get an answer too, and no
 // count wraps: it stays at its greatest number.
+#![tactic(auto)]
+
 ghost use Rattle.std.specs.Prelude.{◌≡◌, [], ◌∷◌, ◌+◌, ◌<◌, min, leb, length};
 ghost use Rattle.psv0_layout.specs.Answers.{field_of};
 ghost use Rattle.psv0_layout.specs.Shown.{number, set_if};

@@ -1,4 +1,6 @@
 // Reads a container of at most 65,536 bytes from standard input and prints its part table, or its refusal.
+#![tactic(auto)]
+
 use libc::STDOUT_FILENO;
 
 fn main() {

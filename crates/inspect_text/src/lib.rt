@@ -1,4 +1,6 @@
 // What the small program prints, as one text.
+#![tactic(auto)]
+
 ghost use Rattle.std.specs.Prelude.{◌≡◌, ◌+◌, ◌≤◌, length, take};
 ghost use Rattle.io.specs.Counts.{IsPrefixLen};
 ghost use Rattle.wire.specs.Number.{placed};
@@ -10,7 +12,7 @@ use lines::Line;
 use wire::Verdict;
 
 // The bytes of a text, zeros after them, and its length. A line has at most 64 bytes, and there are at most 97.
-#[derive(Drop)]
+#[derive(Clone, Copy)]
 pub struct Output {
     pub bytes: [u8; 6208],
     pub len: usize,

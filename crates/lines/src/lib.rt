@@ -1,4 +1,6 @@
 // The lines that the programs print, each built whole.
+#![tactic(auto)]
+
 ghost use Rattle.std.specs.Prelude.{◌≡◌, ◌++◌, ◌+◌, ◌≤◌, length};
 ghost use Rattle.io.specs.Counts.{IsPrefixLen};
 ghost use Rattle.wire.specs.Number.{placed};
@@ -7,7 +9,7 @@ ghost use Rattle.lines.specs.Line.{feed, numbers, accepted_line, refused_line, n
 ghost use Rattle.lines.specs.Line.{printable as Line·printable};
 
 // A line: its bytes, zeros after them, and its length.
-#[derive(Drop)]
+#[derive(Clone, Copy)]
 pub struct Line {
     pub bytes: [u8; 64],
     pub len: usize,

@@ -1,5 +1,7 @@
 // The part table of a DirectX container: refusals 1 to 9, every part's name, header offset, data size, occurrence and gap, and lookup by
 // name and occurrence.
+#![tactic(auto)]
+
 ghost use Rattle.std.specs.Prelude.{◌≡◌, ◌+◌, ◌≤◌, ◌<◌, get_or};
 ghost use Rattle.constants.specs.Name.{is_known};
 ghost use Rattle.wire.specs.Number.{u32_at};
@@ -159,7 +161,7 @@ fn judge_names(names: &[u32; 96], n: usize) -> Verdict
 }
 
 // The verdict of 9, and how many pairs of names were compared for it.
-#[derive(Drop)]
+#[derive(Clone, Copy)]
 struct Compared {
     verdict: Verdict,
     pairs: u32,
@@ -223,7 +225,7 @@ fn check_names(names: &[u32; 96], n: usize, counting: bool) -> Compared
 }
 
 // A part's header, beside the verdict of 8.
-#[derive(Drop)]
+#[derive(Clone, Copy)]
 struct PartHeader {
     verdict: Verdict,
     offset: u32,

@@ -1,5 +1,7 @@
 // The definitions of the part table of a DirectX container, with the types of its answers, and what is proved of them; the reader is a crate
 // of its own.
+#![tactic(auto)]
+
 use wire::Verdict;
 
 // A part table, with room for 96 parts. Entries from count on are zero; a refusal has count 0.
@@ -7,7 +9,7 @@ use wire::Verdict;
 // it is 0. (Two fields for an enum: one that is no number is not written where it stands, and to build the table anew is to copy it.)
 // A name is its four bytes as one little-endian number; an occurrence is how many earlier parts bear the name, a gap how many bytes lie
 // before the part's header, after the part before it or, for the first, after the offset table.
-#[derive(Drop)]
+#[derive(Clone, Copy)]
 pub struct Table {
     pub verdict: Verdict,
     pub count: usize,
@@ -21,14 +23,14 @@ pub struct Table {
 }
 
 // The number of a part, or that there is none.
-#[derive(Drop)]
+#[derive(Clone, Copy)]
 pub enum Found {
     At(usize),
     Nothing,
 }
 
 // A part found by its name: its number, where its header starts and its data size. A refusal has zeros.
-#[derive(Drop)]
+#[derive(Clone, Copy)]
 pub struct Part {
     pub verdict: Verdict,
     pub number: usize,
@@ -38,7 +40,7 @@ pub struct Part {
 
 // Three parts by their names, beside the verdict of 1 to 9 and the number of parts. A part that is not there has 26; a refusal has count 0
 // and stands in each part.
-#[derive(Drop)]
+#[derive(Clone, Copy)]
 pub struct ThreeParts {
     pub verdict: Verdict,
     pub count: usize,

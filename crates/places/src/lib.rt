@@ -1,5 +1,7 @@
 // Queries of PSV0 by a record of section places and the bytes: any record, any bytes. A query gives 26 by the record, then 29 where what it needs
 // doesn't lie inside the bytes or a reference on its way isn't good. Beside a refusal every value is unset and every number zero.
+#![tactic(auto)]
+
 ghost use Rattle.std.specs.Prelude.{◌≡◌, ◌||◌, ◌+◌, ◌*◌, ◌≤◌, ◌<◌, leb, eqb, length, get_or, take};
 ghost use Rattle.wire.specs.Choice.{choose};
 ghost use Rattle.wire.specs.Number.{u32_at};

@@ -1,12 +1,14 @@
 // The definitions of the record of section places that an opening hands back, and of reading by such a record, with what is proved of them; the
 // reading is a crate of its own.
+#![tactic(auto)]
+
 use wire::Verdict;
 
 // What an opening keeps of PSV0 data: the edition read, of each section the place of its first byte after its counts and sizes, its count, its
 // record size; of the masks the words of each; and the stage. Places count from the first byte that was opened, the container's or the data's.
 // Plain data that a caller may keep. At edition read 0 the stage and sections 3 to 6 have zeros.
 #[repr(C)]
-#[derive(Drop)]
+#[derive(Clone, Copy)]
 pub struct SectionPlaces {
     pub edition: u32,
     pub runtime: u32,
@@ -26,7 +28,7 @@ pub struct SectionPlaces {
 }
 
 // An opening of PSV0 data with its places: the verdict, the file's edition and the places. A refusal has zeros.
-#[derive(Drop)]
+#[derive(Clone, Copy)]
 pub struct PlacesAnswer {
     pub verdict: Verdict,
     pub file_edition: usize,

@@ -1,5 +1,7 @@
 // The reader of PSV0 data alone: the opening and the queries. Each gives what opening gives, 25, 2 and 12 to 24, then 26: an opening with the places of the
 // sections, and then a query by them. Beside a refusal every value is unset and every number zero.
+#![tactic(auto)]
+
 ghost use Rattle.std.specs.Prelude.{◌≡◌, get_or};
 ghost use Rattle.constants.specs.Edition.{file_edition_of};
 ghost use Rattle.wire.specs.Number.{u32_at};

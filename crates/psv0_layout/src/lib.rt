@@ -1,16 +1,18 @@
 // The definitions of PSV0 data, with the types of the answers about them, and what is proved of them; the reader and the writer are crates of
 // their own.
+#![tactic(auto)]
+
 use wire::Verdict;
 
 // A value: set, with its number, or unset.
-#[derive(Drop)]
+#[derive(Clone, Copy)]
 pub enum Field {
     Set(u32),
     Unset,
 }
 
 // The fields of the runtime record but the stage union, which is a view.
-#[derive(Drop)]
+#[derive(Clone, Copy)]
 pub struct RuntimeInfo {
     pub minimum_wave_lanes: Field,
     pub maximum_wave_lanes: Field,
@@ -34,7 +36,7 @@ pub struct RuntimeInfo {
 }
 
 // A resource binding's record.
-#[derive(Drop)]
+#[derive(Clone, Copy)]
 pub struct ResourceRecord {
     pub binding_type: Field,
     pub space: Field,
@@ -45,7 +47,7 @@ pub struct ResourceRecord {
 }
 
 // A signature element's record.
-#[derive(Drop)]
+#[derive(Clone, Copy)]
 pub struct ElementRecord {
     pub name_offset: Field,
     pub index_reference: Field,
@@ -63,7 +65,7 @@ pub struct ElementRecord {
 }
 
 // The lists' lengths: R, T, N and E.
-#[derive(Drop)]
+#[derive(Clone, Copy)]
 pub struct ListLengths {
     pub resources: Field,
     pub strings: Field,
@@ -72,39 +74,39 @@ pub struct ListLengths {
 }
 
 // The verdict of an opening, the file's edition and the edition read.
-#[derive(Drop)]
+#[derive(Clone, Copy)]
 pub struct Opening {
     pub verdict: Verdict,
     pub file_edition: usize,
     pub edition_read: usize,
 }
 
-#[derive(Drop)]
+#[derive(Clone, Copy)]
 pub struct InfoAnswer {
     pub verdict: Verdict,
     pub info: RuntimeInfo,
 }
 
-#[derive(Drop)]
+#[derive(Clone, Copy)]
 pub struct ResourceAnswer {
     pub verdict: Verdict,
     pub resource: ResourceRecord,
 }
 
-#[derive(Drop)]
+#[derive(Clone, Copy)]
 pub struct ElementAnswer {
     pub verdict: Verdict,
     pub element: ElementRecord,
 }
 
-#[derive(Drop)]
+#[derive(Clone, Copy)]
 pub struct LengthsAnswer {
     pub verdict: Verdict,
     pub lengths: ListLengths,
 }
 
 // What is shown as bytes: the stage union, an element's string or index array, the entry name, a mask.
-#[derive(Drop)]
+#[derive(Clone, Copy)]
 pub enum View {
     StageUnion,
     ElementString(usize),
@@ -114,7 +116,7 @@ pub enum View {
 }
 
 // A section whose bytes are handed out for writing again.
-#[derive(Drop)]
+#[derive(Clone, Copy)]
 pub enum Section {
     RuntimeRecord,
     ResourceRecords,
@@ -125,7 +127,7 @@ pub enum Section {
 }
 
 // The code points of a string, or that there is no string.
-#[derive(Drop)]
+#[derive(Clone, Copy)]
 pub enum Points {
     Count(usize),
     Unset,
@@ -133,7 +135,7 @@ pub enum Points {
 
 // A verdict, a stretch of the data: where it starts and its length, and the code points where it is a string, which stand between the two: so the
 // compiler hands on each by itself, and need not wait until both can be read at once.
-#[derive(Drop)]
+#[derive(Clone, Copy)]
 pub struct Span {
     pub verdict: Verdict,
     pub start: usize,

@@ -1,4 +1,6 @@
 // The walk over PSV0 data: the verdict of a reading, and where each section lies.
+#![tactic(auto)]
+
 ghost use Rattle.std.specs.Prelude.{◌≡◌, ◌&&◌, not, ℕ, ◌+◌, ◌*◌, ◌≤◌, ◌<◌, min, ltb, eqb, length, get_or, take};
 ghost use Rattle.wire.specs.Number.{u32_at};
 ghost use Rattle.wire.specs.Verdict.{◌then◌, check, from};
@@ -14,14 +16,14 @@ ghost use Rattle.psv0_sections.specs.Steps.{step_to, SmallStep, table_at, head_o
 use wire::Verdict;
 
 // A position in PSV0 data. It is taken and handed back past each field, table and mask section.
-#[derive(Drop)]
+#[derive(Clone, Copy)]
 pub struct Cursor {
     pub at: usize,
 }
 
 // Where the sections lie, for a reading at an edition: the edition read, the runtime record's size S (the record starts at 4), and of
 // each later section the position after its counts and sizes, its count and its record size. A section that is unset has zeros.
-#[derive(Drop)]
+#[derive(Clone, Copy)]
 pub struct Places {
     pub edition: usize,
     pub size: usize,
@@ -40,21 +42,21 @@ pub struct Places {
 }
 
 // The verdict on PSV0 data, 25, 2 and 12 to 24, and the places. A refusal has zeros.
-#[derive(Drop)]
+#[derive(Clone, Copy)]
 pub struct Located {
     pub verdict: Verdict,
     pub places: Places,
 }
 
 // A step forward: a number and the position past what was stepped over, or that it does not fit.
-#[derive(Drop)]
+#[derive(Clone, Copy)]
 enum Step {
     Past(usize, Cursor),
     Short,
 }
 
 // A step over records: the position of the first, their size and the position past the last, or that they do not fit.
-#[derive(Drop)]
+#[derive(Clone, Copy)]
 enum Table {
     Whole {
         first: usize,
@@ -65,14 +67,14 @@ enum Table {
 }
 
 // Sections 1 and 2: refused, or their places and the position past them.
-#[derive(Drop)]
+#[derive(Clone, Copy)]
 enum Head {
     Refused(u8, usize),
     Read(Places, Cursor),
 }
 
 // Sections 3 to 6 too: refused, or the places of all six.
-#[derive(Drop)]
+#[derive(Clone, Copy)]
 enum Rest {
     Refused(u8, usize),
     Read(Places),

@@ -1,5 +1,7 @@
 // The PSV0 writer: from an edition and the bytes of each section to PSV0 data in the caller's output.
 // Every check is made before the first byte is written.
+#![tactic(auto)]
+
 ghost use Rattle.std.specs.Prelude.{◌≡◌, [], ◌++◌, ◌+◌, ◌≤◌, eqb, length};
 ghost use Rattle.wire.specs.Number.{le32};
 ghost use Rattle.psv0_writer_layout.specs.Stretch.{size_field, size_field_length, head_bytes, body_bytes, head_length, body_length, written_bytes, written_length};

@@ -1,5 +1,7 @@
 // What the PSV0 writer answers at the edges of its refusals, and what it writes, read back: one line a case, compared with the file
 // stdout. The output holds 512 bytes of 170, of which the writer is lent some.
+#![tactic(auto)]
+
 use libc::STDOUT_FILENO;
 use psv0_sections::Places;
 use psv0_writer_layout::Written;

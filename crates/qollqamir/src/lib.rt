@@ -1,6 +1,8 @@
 // The library for programs in C and Rust: every public call, with plain structs for its answers. A view crosses as where it starts and its
 // length. Beside a refusal every number is 0 and no field is set. include/qollqamir.h documents each call.
 // No struct has padding: a field is as wide as its place, so that each byte of an answer is a byte of a field that the promise names.
+#![tactic(auto)]
+
 ghost use Rattle.std.specs.Prelude.{◌≡◌, ◌<◌, length};
 ghost use Rattle.assembler_layout.specs.Answer as assembly;
 ghost use Rattle.constants.specs.Edition.{file_edition_of};
@@ -52,7 +54,7 @@ use wire::Verdict;
 
 // A verdict: the refusal's number, 0 where the call accepts, and its place.
 #[repr(C)]
-#[derive(Drop)]
+#[derive(Clone, Copy)]
 pub struct CVerdict {
     pub number: usize,
     pub place: usize,
@@ -60,7 +62,7 @@ pub struct CVerdict {
 
 // A value: 1 where it is set, 0 where it is not, and its number, 0 where it is not.
 #[repr(C)]
-#[derive(Drop)]
+#[derive(Clone, Copy)]
 pub struct CField {
     pub set: u32,
     pub value: u32,
@@ -70,7 +72,7 @@ const UNSET: CField = CField { set: 0, value: 0 };
 
 // A part table.
 #[repr(C)]
-#[derive(Drop)]
+#[derive(Clone, Copy)]
 pub struct CTable {
     pub verdict: CVerdict,
     pub count: usize,
@@ -84,7 +86,7 @@ pub struct CTable {
 
 // A part: its number, where its header starts and its data size.
 #[repr(C)]
-#[derive(Drop)]
+#[derive(Clone, Copy)]
 pub struct CPart {
     pub verdict: CVerdict,
     pub number: usize,
@@ -94,7 +96,7 @@ pub struct CPart {
 
 // An opening: the number of parts, the file's edition and the edition read.
 #[repr(C)]
-#[derive(Drop)]
+#[derive(Clone, Copy)]
 pub struct COpening {
     pub verdict: CVerdict,
     pub parts: usize,
@@ -104,7 +106,7 @@ pub struct COpening {
 
 // An opening with the places of the PSV0 sections.
 #[repr(C)]
-#[derive(Drop)]
+#[derive(Clone, Copy)]
 pub struct COpened {
     pub verdict: CVerdict,
     pub parts: u32,
@@ -115,7 +117,7 @@ pub struct COpened {
 
 // The fields of the runtime record.
 #[repr(C)]
-#[derive(Drop)]
+#[derive(Clone, Copy)]
 pub struct CInfo {
     pub verdict: CVerdict,
     pub minimum_wave_lanes: CField,
@@ -141,7 +143,7 @@ pub struct CInfo {
 
 // A resource binding's record.
 #[repr(C)]
-#[derive(Drop)]
+#[derive(Clone, Copy)]
 pub struct CResource {
     pub verdict: CVerdict,
     pub binding_type: CField,
@@ -154,7 +156,7 @@ pub struct CResource {
 
 // A signature element's record.
 #[repr(C)]
-#[derive(Drop)]
+#[derive(Clone, Copy)]
 pub struct CElement {
     pub verdict: CVerdict,
     pub name_offset: CField,
@@ -174,7 +176,7 @@ pub struct CElement {
 
 // The lists' lengths.
 #[repr(C)]
-#[derive(Drop)]
+#[derive(Clone, Copy)]
 pub struct CLengths {
     pub verdict: CVerdict,
     pub resources: CField,
@@ -185,7 +187,7 @@ pub struct CLengths {
 
 // A stretch of the caller's bytes. Where it is a string, 1 and its code points; else zeros.
 #[repr(C)]
-#[derive(Drop)]
+#[derive(Clone, Copy)]
 pub struct CSpan {
     pub verdict: CVerdict,
     pub start: usize,
@@ -196,7 +198,7 @@ pub struct CSpan {
 
 // What a writer did: the length of its result.
 #[repr(C)]
-#[derive(Drop)]
+#[derive(Clone, Copy)]
 pub struct CWritten {
     pub verdict: CVerdict,
     pub len: usize,
@@ -204,7 +206,7 @@ pub struct CWritten {
 
 // A container with other PSV0 data: the length of the result, and the places of its PSV0 sections.
 #[repr(C)]
-#[derive(Drop)]
+#[derive(Clone, Copy)]
 pub struct CReplaced {
     pub verdict: CVerdict,
     pub len: u32,
@@ -213,7 +215,7 @@ pub struct CReplaced {
 
 // The fields of the program header and of the bitcode header.
 #[repr(C)]
-#[derive(Drop)]
+#[derive(Clone, Copy)]
 pub struct CHeader {
     pub version_major: u32,
     pub version_minor: u32,
@@ -227,7 +229,7 @@ pub struct CHeader {
 
 // The data of a DXIL part: the header's fields, and the bitcode as a stretch of them.
 #[repr(C)]
-#[derive(Drop)]
+#[derive(Clone, Copy)]
 pub struct CProgram {
     pub verdict: CVerdict,
     pub header: CHeader,
@@ -237,7 +239,7 @@ pub struct CProgram {
 
 // The report on a container's DXIL part: the bitcode as a stretch of the container, the stage that PSV0 shows, and how the stages compare.
 #[repr(C)]
-#[derive(Drop)]
+#[derive(Clone, Copy)]
 pub struct CReport {
     pub verdict: CVerdict,
     pub header: CHeader,
@@ -249,7 +251,7 @@ pub struct CReport {
 
 // A signature: its element count.
 #[repr(C)]
-#[derive(Drop)]
+#[derive(Clone, Copy)]
 pub struct CSignature {
     pub verdict: CVerdict,
     pub count: usize,
@@ -257,7 +259,7 @@ pub struct CSignature {
 
 // The report on a signature part: its element count, and its data as a stretch of the container.
 #[repr(C)]
-#[derive(Drop)]
+#[derive(Clone, Copy)]
 pub struct CSignatureReport {
     pub verdict: CVerdict,
     pub count: usize,
@@ -267,7 +269,7 @@ pub struct CSignatureReport {
 
 // A signature element, and its name: 1 where it has one, 0 where it has none, where it starts, its length and its code points.
 #[repr(C)]
-#[derive(Drop)]
+#[derive(Clone, Copy)]
 pub struct CSignatureElement {
     pub verdict: CVerdict,
     pub stream: u32,
@@ -287,7 +289,7 @@ pub struct CSignatureElement {
 
 // The first element that differs: 1 and its number, 0 and 0 where there is none.
 #[repr(C)]
-#[derive(Drop)]
+#[derive(Clone, Copy)]
 pub struct CDifference {
     pub verdict: CVerdict,
     pub found: usize,
@@ -296,7 +298,7 @@ pub struct CDifference {
 
 // A root signature: its header.
 #[repr(C)]
-#[derive(Drop)]
+#[derive(Clone, Copy)]
 pub struct CRoot {
     pub verdict: CVerdict,
     pub version: u32,
@@ -307,7 +309,7 @@ pub struct CRoot {
 
 // The report on a root signature: its header, and the part's data as a stretch of the container.
 #[repr(C)]
-#[derive(Drop)]
+#[derive(Clone, Copy)]
 pub struct CRootReport {
     pub verdict: CVerdict,
     pub version: u32,
@@ -321,7 +323,7 @@ pub struct CRootReport {
 // An item of a root signature: the parameter's type, unset for a static sampler, and the values of its case; the others have zeros. The three
 // levels of detail cross as the file's bits, whatever they are: a caller's float has the same bytes.
 #[repr(C)]
-#[derive(Drop)]
+#[derive(Clone, Copy)]
 pub struct CItem {
     pub verdict: CVerdict,
     pub parameter_type: CField,
@@ -346,7 +348,7 @@ pub struct CItem {
 
 // A range of a table.
 #[repr(C)]
-#[derive(Drop)]
+#[derive(Clone, Copy)]
 pub struct CRange {
     pub verdict: CVerdict,
     pub range_type: u32,
@@ -359,7 +361,7 @@ pub struct CRange {
 
 // A settings file: its number of rows, and where the first begins.
 #[repr(C)]
-#[derive(Drop)]
+#[derive(Clone, Copy)]
 pub struct CSettings {
     pub verdict: CVerdict,
     pub rows: usize,
@@ -368,7 +370,7 @@ pub struct CSettings {
 
 // A row of a settings file.
 #[repr(C)]
-#[derive(Drop)]
+#[derive(Clone, Copy)]
 pub struct CSettingsRow {
     pub verdict: CVerdict,
     pub version: u32,
@@ -378,7 +380,7 @@ pub struct CSettingsRow {
 
 // A row of a settings file by itself, and where it ends.
 #[repr(C)]
-#[derive(Drop)]
+#[derive(Clone, Copy)]
 pub struct CSettingsRowAlone {
     pub verdict: CVerdict,
     pub version: u32,
@@ -389,7 +391,7 @@ pub struct CSettingsRowAlone {
 
 // The value of a key at a version.
 #[repr(C)]
-#[derive(Drop)]
+#[derive(Clone, Copy)]
 pub struct CSetting {
     pub verdict: CVerdict,
     pub setting: CField,
@@ -397,7 +399,7 @@ pub struct CSetting {
 
 // Figures with one container more: 0 where it is counted, with what its opening gave; 1 where they are full, with zeros.
 #[repr(C)]
-#[derive(Drop)]
+#[derive(Clone, Copy)]
 pub struct CAdded {
     pub answer: usize,
     pub verdict: CVerdict,
@@ -406,7 +408,7 @@ pub struct CAdded {
 
 // Two figures joined: 0; the first as it was, and 1 where there is no room, 2 where their editions differ.
 #[repr(C)]
-#[derive(Drop)]
+#[derive(Clone, Copy)]
 pub struct CJoined {
     pub answer: usize,
     pub figures: Figures,
@@ -879,7 +881,7 @@ fn c_signature_report(a: SignatureReport) -> CSignatureReport
 }
 
 // A name as four numbers: whether there is one, where it starts, its length and its code points.
-#[derive(Drop)]
+#[derive(Clone, Copy)]
 struct NameParts {
     named: u32,
     start: usize,

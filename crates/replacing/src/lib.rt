@@ -1,5 +1,7 @@
 // The replacing of a container's PSV0 part: the container with other PSV0 data, in the caller's output (document 02, Ask 11).
 // Every check is made before the first byte is written.
+#![tactic(auto)]
+
 ghost use Rattle.std.specs.Prelude.{◌≡◌, ◌++◌, suc, ◌+◌, ◌-◌, ◌*◌, ◌≤◌, ◌<◌, length};
 ghost use Rattle.wire.specs.Number.{le32, placed};
 ghost use Rattle.part_table_layout.specs.Table.{count_of};

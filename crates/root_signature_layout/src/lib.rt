@@ -1,10 +1,12 @@
 // The definitions of the data of a part RTS0 (document 02, Ask 6): a root signature's header, its items and the ranges of its tables; the
 // reader is a crate of its own.
+#![tactic(auto)]
+
 use psv0_layout::Field;
 use wire::Verdict;
 
 // The header's version, counts and flags. A refusal has zeros.
-#[derive(Drop)]
+#[derive(Clone, Copy)]
 pub struct RootHeader {
     pub version: u32,
     pub parameters: u32,
@@ -13,21 +15,21 @@ pub struct RootHeader {
 }
 
 // The verdict on a root signature and its header.
-#[derive(Drop)]
+#[derive(Clone, Copy)]
 pub struct RootSignature {
     pub verdict: Verdict,
     pub header: RootHeader,
 }
 
 // A 32-bit float of the file: its four bytes as a number, and the float that they are.
-#[derive(Drop)]
+#[derive(Clone, Copy)]
 pub struct Single {
     pub bits: u32,
     pub value: f32,
 }
 
 // An item: a parameter that is a table, constants or a descriptor, or a static sampler. Unset stands beside a refusal alone.
-#[derive(Drop)]
+#[derive(Clone, Copy)]
 pub enum Item {
     Constants {
         visibility: u32,
@@ -66,14 +68,14 @@ pub enum Item {
 }
 
 // The verdict, and one item.
-#[derive(Drop)]
+#[derive(Clone, Copy)]
 pub struct ItemAnswer {
     pub verdict: Verdict,
     pub item: Item,
 }
 
 // A range of a table. A refusal has zeros, and the flags are unset.
-#[derive(Drop)]
+#[derive(Clone, Copy)]
 pub struct DescriptorRange {
     pub range_type: u32,
     pub descriptors: u32,
@@ -84,7 +86,7 @@ pub struct DescriptorRange {
 }
 
 // The verdict, and one range.
-#[derive(Drop)]
+#[derive(Clone, Copy)]
 pub struct RangeAnswer {
     pub verdict: Verdict,
     pub range: DescriptorRange,

@@ -1,5 +1,7 @@
 // The report on the root signature of a container, above the opening and the reader of such data through their promises: what opening gives, 26,
 // then 46 to 51; the header, the items and the ranges of tables. Beside a refusal nothing of the file is shown.
+#![tactic(auto)]
+
 ghost use Rattle.std.specs.Prelude.{◌≡◌, []};
 ghost use Rattle.root_signature_report_layout.specs.Reported.{report_if, root_report_of, item_report_of, range_report_of};
 

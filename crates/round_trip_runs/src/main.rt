@@ -1,5 +1,7 @@
 // PSV0 data of each edition, written, assembled into a container, opened again at each edition and shown value by value, then written
 // again from what the reading hands out: compared with the file stdout. An unset value is `-`.
+#![tactic(auto)]
+
 use libc::STDOUT_FILENO;
 use psv0_layout::{ElementRecord, Field, ResourceRecord, RuntimeInfo, Section, View};
 use wire::Verdict;

@@ -1,4 +1,6 @@
 // settings VERSION FILE: prints the rows of a settings file of at most 65,536 bytes, and what it settles at a version.
+#![tactic(auto)]
+
 use arguments::Contents;
 use printing::{number, text};
 use settings_layout::Setting;

@@ -1,5 +1,7 @@
 // The reader of settings files: refusals 53 to 60, rows, and the value of a key at a version. No call keeps anything of a file: a question is
 // answered in one walk over its rows.
+#![tactic(auto)]
+
 ghost use Rattle.std.specs.Prelude.{◌≡◌, ◌≤◌, ◌<◌, eqb, length, drop};
 ghost use Rattle.wire.specs.Choice.{choose};
 ghost use Rattle.settings_layout.specs.File.{rows_judged, rows_from};
@@ -18,7 +20,7 @@ const NO_ROW: Row = Row {
 };
 
 // The key and the value of a row, and where the row ends; or the refusal.
-#[derive(Drop)]
+#[derive(Clone, Copy)]
 enum Pair {
     Held(u32, u32, usize),
     Wrong(u8, usize),
@@ -190,7 +192,7 @@ fn wanted(before: Row, row: Row, j: usize, i: usize) -> Row
 }
 
 // The answer to every question at once.
-#[derive(Drop)]
+#[derive(Clone, Copy)]
 struct Walked {
     verdict: Verdict,
     setting: Setting,

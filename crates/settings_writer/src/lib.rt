@@ -1,5 +1,7 @@
 // The writer of settings files: from rows, three numbers each, to bytes in the caller's output. Every check is made before the first byte is
 // written.
+#![tactic(auto)]
+
 ghost use Rattle.std.specs.Prelude.{◌≡◌, ◌+◌, ◌%◌, ◌≤◌, ◌<◌, leb, length};
 ghost use Rattle.std.proofs.lemmas.List.Edits.{sets};
 ghost use Rattle.wire.specs.Verdict.{◌then◌, check};
@@ -14,7 +16,7 @@ use settings_layout::SettingsWritten;
 use wire::Verdict;
 
 // Where the next row begins, or the refusal.
-#[derive(Drop)]
+#[derive(Clone, Copy)]
 enum Step {
     Next(usize),
     Wrong(u8, usize),

@@ -1,4 +1,6 @@
 // show EDITION FILE: prints all that an opening of a container of at most 65,536 bytes and its queries show, one item a line.
+#![tactic(auto)]
+
 ghost use Rattle.std.specs.Prelude.{◌≡◌, ◌+◌, ◌≤◌, length};
 ghost use Rattle.wire.specs.declared.Verdict.TheVariants.{Accepted};
 ghost use Rattle.part_table_layout.specs.Pairs.{counted_of};

@@ -1,4 +1,6 @@
 // The reader of the data of a part ISG1, OSG1 or PSG1 alone: refusals 43 to 45 and 52, the elements and their names as parts of the caller's slice.
+#![tactic(auto)]
+
 ghost use Rattle.std.specs.Prelude.{◌≡◌, true, ◌&&◌, ◌+◌, ◌≤◌, leb, ltb, length};
 ghost use Rattle.wire.specs.Verdict.{each};
 ghost use Rattle.wire.specs.declared.Verdict.TheVariants.{Accepted};

@@ -1,6 +1,8 @@
 // The reports on a signature part of a container, ISG1, OSG1 or PSG1, above the opening and the reader of such data through their promises: what
 // opening gives, 26, then 43 to 45 and 52; the elements and their names; and the first element whose name differs from PSV0's. Beside a refusal
 // nothing of the file is shown.
+#![tactic(auto)]
+
 ghost use Rattle.std.specs.Prelude.{◌≡◌, [], ℕ, ◌+◌, ◌*◌, ◌/◌, ◌≤◌, ◌<◌, length};
 ghost use Rattle.wire.specs.declared.Verdict.TheVariants.{Accepted};
 ghost use Rattle.container_layout.specs.Container.{container_part};

@@ -1,4 +1,6 @@
 // Strings that end at a zero byte, or with the bytes they stand in: where the last ends, how long one is, whether two are the same.
+#![tactic(auto)]
+
 ghost use Rattle.std.specs.Prelude.{◌≡◌, false, ◌⊎◌, ◌+◌, ◌≤◌, length, get_or};
 ghost use Rattle.wire.specs.Stretch.{same_bytes};
 ghost use Rattle.psv0_layout.specs.Position.{NoZero, UpToLastZero};

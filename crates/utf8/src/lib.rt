@@ -1,5 +1,7 @@
 // UTF-8 of strings that end at a zero byte: which of many references are good, whether one is, and how many code points a string has. Every
 // public function takes any bytes and any numbers.
+#![tactic(auto)]
+
 ghost use Rattle.std.specs.Prelude.{◌≡◌, true, false, ◌+◌, ◌-◌, ◌*◌, ◌/◌, ◌%◌, ◌^◌, ◌≤◌, ◌<◌, min, max, eqb, length, get_or};
 ghost use Rattle.utf8_layout.specs.Lead.{follows, lead, leads};
 ghost use Rattle.utf8_layout.specs.Sequence.{well_formed, code_points};
@@ -638,7 +640,7 @@ pub fn first_ill(
 
 // ---- one reference
 // The string at a reference: how many bytes and how many code points it has, or that the reference isn't good.
-#[derive(Drop)]
+#[derive(Clone, Copy)]
 pub enum StringRead {
     Good(usize, usize),
     Ill,

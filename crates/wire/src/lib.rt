@@ -1,11 +1,13 @@
 // Little-endian numbers in byte slices, and the verdict that readers and writers answer.
 // Every function takes any bytes and any place.
+#![tactic(auto)]
+
 ghost use Rattle.std.specs.Prelude.{◌≡◌, ◌+◌, ◌≤◌, ◌<◌, min, length, get_or};
 ghost use Rattle.wire.specs.Number.{u16_at, u32_at, le16, le32, placed};
 ghost use Rattle.wire.specs.Stretch.{copied};
 
 // What checks in a row say: accepted, or refused with a number of document 01's table and a place.
-#[derive(Drop)]
+#[derive(Clone, Copy)]
 pub enum Verdict {
     Accepted,
     Refused(u8, usize),

@@ -1,9 +1,11 @@
 // The words that programs are started with.
+#![tactic(auto)]
+
 ghost use Rattle.std.specs.Prelude.{◌≡◌};
 ghost use Rattle.words.specs.Word.{named_of};
 
 // The number that a word names: decimal digits alone. One of 4,294,967,296 or more is only told as greater.
-#[derive(Drop)]
+#[derive(Clone, Copy)]
 pub enum Named {
     Number(u32),
     Greater,
