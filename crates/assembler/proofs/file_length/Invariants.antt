@@ -1,0 +1,15 @@
+use lib.ListN.{length}
+use Rattle.assembler_layout.proofs.Sections.{round_up_most, end_next}
+use Prim.Native.Nat.{◌+◌, ◌-◌, ◌*◌, ◌≤◌}
+use mathlib.Core.Path.{◌≡◌, refl}
+use native.Mathlib.Omega.{arith}
+use Rattle.assembler_layout.specs.Assembled.{end_before}
+use Rattle.assembler_layout.specs.Answer.{sized}
+use borrow.Author.Rules.{rules}
+use Rattle.assembler.proofs.file_length.Given as goal
+
+abbrev pub invariant-loop-i : goal.invariant-loop-i
+invariant-loop-i l = (l.i ≤ l.n) × ((l.end ≡ end_before (sized l.sizes) l.i) × (l.end ≤ 32 + 4 * l.n + 4294967306 * l.i))
+
+abbrev pub decreases-loop-i : goal.decreases-loop-i
+decreases-loop-i l = l.n - l.i

@@ -1,0 +1,16 @@
+use Prim.Native.Nat.{◌*◌, ◌-◌, ◌≤◌}
+use mathlib.Core.Path.{◌≡◌, refl}
+use native.Mathlib.Omega.{arith}
+use borrow.Author.Rules.{rules}
+use Rattle.wire.proofs.Stretches.{Written, none_written, written_length_lem}
+use Rattle.part_table_layout.specs.Table.{offset_bytes}
+use Rattle.assembler_layout.specs.Assembled.{end_before, offsets_from}
+use Rattle.assembler_layout.specs.Answer.{sized}
+use Rattle.assembler_layout.proofs.Sections.{StartFits, start_fits, end_next, offset_more, all_offsets}
+use Rattle.assembler.proofs.write_offsets.Given as goal
+
+abbrev pub invariant-loop-i : goal.invariant-loop-i
+invariant-loop-i l = (l.i ≤ l.n) × ((l.end ≡ end_before (sized l.sizes) l.i) × Written l.initial.out (offsets_from (sized l.sizes) 0 l.i) (4 * l.i) l.out)
+
+abbrev pub decreases-loop-i : goal.decreases-loop-i
+decreases-loop-i l = l.n - l.i

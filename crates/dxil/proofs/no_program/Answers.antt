@@ -1,0 +1,5 @@
+use borrow.Author.Rules.{rules}
+use Rattle.dxil.proofs.no_program.Goals as goal
+
+pub returns : goal.returns
+returns c = rw c.no_header.ensures

@@ -1,0 +1,11 @@
+use Prim.Native.Nat.{◌-◌}
+use mathlib.Core.Logic.{⊎_elim}
+use borrow.Author.Rules.{rules}
+use Rattle.part_table_layout.proofs.Lookups.{all_capped, some_capped, Looked, look_begin, look_on, look_past, look_here, look_nowhere}
+use Rattle.part_table.proofs.find_occurrence.Given as goal
+
+abbrev pub invariant-loop-i : goal.invariant-loop-i
+invariant-loop-i l = Looked l.names l.count l.x l.occurrence l.n l.i l.left
+
+abbrev pub decreases-loop-i : goal.decreases-loop-i
+decreases-loop-i l = l.n - l.i

@@ -1,0 +1,14 @@
+use native.Mathlib.Omega.{arith}
+use Rattle.wire.proofs.Numbers.{past_end}
+use mathlib.Core.Path.{refl}
+use borrow.Author.Rules.{rules}
+use Rattle.places.proofs.word_at.Goals as goal
+
+pub overflow_cast-result : goal.overflow_cast-result
+overflow_cast-result c = record { fits = omega (arith, (c.shared_slice_known-1.given c.args.m).fits) }
+
+pub returns-then-m-words : goal.returns-then-m-words
+returns-then-m-words c = (refl, (c.shared_slice_known-1.given c.args.m).fits)
+
+pub returns : goal.returns
+returns c = (past_end c.args.words.now c.args.m c.if-m-words.false, omega arith)

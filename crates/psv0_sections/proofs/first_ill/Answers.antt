@@ -1,0 +1,14 @@
+use Rattle.psv0_layout.specs.Position.{reference_at}
+use Rattle.psv0_layout.proofs.References.{whole_slice, decided_plain, decided_first}
+use Rattle.utf8.specs.Referred.{passes, first_ill}
+use borrow.Author.Rules.{rules}
+use Rattle.psv0_sections.proofs.first_ill.Goals as goal
+
+pub returns-then-plain_from : goal.returns-then-plain_from
+returns-then-plain_from c = λ m u. decided_plain _ _ _ m u (c.plain_from.ensures.0 c.if-plain_from.true)
+
+pub returns : goal.returns
+unfolding passes first_ill
+returns c =
+    let t = c.args.t.now in
+    λ m u. decided_first t _ _ m u _ (rw (whole_slice t) at c.first_ill.ensures)

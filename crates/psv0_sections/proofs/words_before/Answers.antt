@@ -1,0 +1,26 @@
+use Prim.Native.Nat.{◌≤◌, ◌-◌}
+use mathlib.Core.Path.{◌≡◌}
+use native.Mathlib.Omega.{arith}
+use borrow.Author.Rules.{rules}
+use lib.ListN.{take}
+use Rattle.psv0_layout.specs.Field.{mask_words_of, sum}
+use Rattle.psv0_layout.proofs.Masks.{none_before, one_more, total_fits, all_before}
+use Rattle.psv0_sections.proofs.words_before.Goals as goal
+
+pub loop-i-init : goal.loop-i-init
+loop-i-init c = (omega arith, omega (arith, c.lesser-end.ensures), none_before c.args.r.now)
+
+pub overflow_add-total : goal.overflow_add-total
+overflow_add-total c =
+    let l = c.loop-i in
+    record { fits = total_fits _ (record { below = λ k. (c.shared_slice_known-1.given k).fits }) _ _ _ l.invariant.2 c.mask_words-total.ensures (omega arith) }
+
+pub loop-i-preserved : goal.loop-i-preserved
+loop-i-preserved c =
+    let l = c.loop-i in
+    (omega arith, l.invariant.1, one_more _ (record { below = λ k. (c.shared_slice_known-1.given k).fits }) _ _ _ l.invariant.2 c.mask_words-total.ensures)
+
+pub returns : goal.returns
+returns c =
+    let l = c.loop-i in
+    all_before c.args.r.now c.args.m l.i l.total (omega (arith, c.lesser-end.ensures)) l.invariant.2

@@ -1,0 +1,14 @@
+use Prim.Native.Nat.{◌≤◌, ◌-◌}
+use mathlib.Core.Path.{◌≡◌}
+use native.Mathlib.Omega.{arith}
+use borrow.Author.Rules.{rules}
+use lib.ListN.{take}
+use Rattle.psv0_layout.specs.Field.{mask_words_of, sum}
+use Rattle.psv0_layout.proofs.Masks.{none_before, one_more, total_fits, all_before}
+use Rattle.psv0_sections.proofs.words_before.Given as goal
+
+abbrev pub invariant-loop-i : goal.invariant-loop-i
+invariant-loop-i l = (l.i ≤ l.end) × (l.end ≤ 11) × (l.total ≡ sum (take l.i (mask_words_of l.r)))
+
+abbrev pub decreases-loop-i : goal.decreases-loop-i
+decreases-loop-i l = l.end - l.i

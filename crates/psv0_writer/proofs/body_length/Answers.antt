@@ -1,0 +1,8 @@
+use native.Mathlib.Omega.{arith}
+use borrow.Author.Rules.{rules}
+use Rattle.psv0_writer_layout.specs.Stretch.{body_length}
+use Rattle.psv0_writer.proofs.body_length.Goals as goal
+
+pub returns : goal.returns
+unfolding body_length
+returns c = omega arith

@@ -1,0 +1,7 @@
+use Rattle.qollqamir.specs.Boundary.{c_added}
+use borrow.Author.Rules.{rules}
+use Rattle.qollqamir.proofs.c_added.Goals as goal
+
+pub returns : goal.returns
+unfolding c_added
+returns c = rw (c.addition_number.ensures, c.addition_verdict.ensures)

@@ -1,0 +1,7 @@
+use Rattle.qollqamir.specs.Boundary.{c_assembly}
+use borrow.Author.Rules.{rules}
+use Rattle.qollqamir.proofs.c_assembly.Goals as goal
+
+pub returns : goal.returns
+unfolding c_assembly
+returns c = rw c.c_verdict.ensures

@@ -1,0 +1,7 @@
+use Rattle.qollqamir.specs.Boundary.{c_joined}
+use borrow.Author.Rules.{rules}
+use Rattle.qollqamir.proofs.c_joined.Goals as goal
+
+pub returns : goal.returns
+unfolding c_joined
+returns c = rw c.joining_number.ensures

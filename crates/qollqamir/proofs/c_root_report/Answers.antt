@@ -1,0 +1,7 @@
+use Rattle.qollqamir.specs.Boundary.{c_root_report}
+use borrow.Author.Rules.{rules}
+use Rattle.qollqamir.proofs.c_root_report.Goals as goal
+
+pub returns : goal.returns
+unfolding c_root_report
+returns c = rw c.c_verdict.ensures

@@ -1,0 +1,7 @@
+use Rattle.qollqamir.specs.Boundary.{c_settings}
+use borrow.Author.Rules.{rules}
+use Rattle.qollqamir.proofs.c_settings.Goals as goal
+
+pub returns : goal.returns
+unfolding c_settings
+returns c = rw c.c_verdict.ensures

@@ -1,0 +1,7 @@
+use mathlib.Core.Path.{◌∙◌, ap}
+use Rattle.qollqamir.specs.Boundary.{c_assembly}
+use borrow.Author.Rules.{rules}
+use Rattle.qollqamir.proofs.qollqamir_assemble.Goals as goal
+
+pub returns : goal.returns
+returns c = (c.c_assembly.ensures ∙ ap c_assembly c.assemble.ensures.value, c.assemble.ensures.out_after)

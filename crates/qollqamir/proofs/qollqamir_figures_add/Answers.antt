@@ -1,0 +1,7 @@
+use mathlib.Core.Path.{◌∙◌, ap}
+use Rattle.qollqamir.specs.Boundary.{c_added}
+use borrow.Author.Rules.{rules}
+use Rattle.qollqamir.proofs.qollqamir_figures_add.Goals as goal
+
+pub returns : goal.returns
+returns c = c.c_added.ensures ∙ ap c_added c.add.ensures

@@ -1,0 +1,7 @@
+use mathlib.Core.Path.{◌∙◌, ap}
+use Rattle.qollqamir.specs.Boundary.{c_part}
+use borrow.Author.Rules.{rules}
+use Rattle.qollqamir.proofs.qollqamir_part.Goals as goal
+
+pub returns : goal.returns
+returns c = c.c_part.ensures ∙ ap c_part c.part.ensures

@@ -1,0 +1,7 @@
+use mathlib.Core.Path.{◌∙◌, ap}
+use Rattle.qollqamir.specs.Boundary.{c_settings_written}
+use borrow.Author.Rules.{rules}
+use Rattle.qollqamir.proofs.qollqamir_write_settings.Goals as goal
+
+pub returns : goal.returns
+returns c = (c.c_settings_written.ensures ∙ ap c_settings_written c.write.ensures.answered, c.write.ensures.left)

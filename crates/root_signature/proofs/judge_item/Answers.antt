@@ -1,0 +1,14 @@
+use Rattle.root_signature_layout.proofs.Steps.{parameter_decides, sampler_outside, sampler_inside}
+use borrow.Author.Rules.{rules}
+use Rattle.root_signature.proofs.judge_item.Goals as goal
+
+pub returns-then-i-parameters : goal.returns-then-i-parameters
+returns-then-i-parameters c = parameter_decides _ _ c.u32_at-parameters.ensures c.if-i-parameters.true c.judge_parameter.ensures
+
+pub returns-then-d-at : goal.returns-then-d-at
+returns-then-d-at c =
+    sampler_outside _ _ c.u32_at-parameters.ensures c.if-i-parameters.false c.u32_at.ensures c.if-d-at.true
+
+pub returns : goal.returns
+returns c =
+    sampler_inside _ _ c.u32_at-parameters.ensures c.if-i-parameters.false c.u32_at.ensures c.if-d-at.false

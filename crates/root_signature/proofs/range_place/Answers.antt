@@ -1,0 +1,13 @@
+use native.Mathlib.Omega.{arith}
+use borrow.Author.Tests.{eq-eqb, ne_eqb}
+use Rattle.root_signature_layout.specs.Root.{range_size}
+use borrow.Author.Rules.{rules}
+use Rattle.root_signature.proofs.range_place.Goals as goal
+
+pub returns-then-version-eq1 : goal.returns-then-version-eq1
+unfolding range_size
+returns-then-version-eq1 c = (rw (eq-eqb _ _ c.if-version-eq1.true), omega (arith, c.requires.0, c.requires.1))
+
+pub returns : goal.returns
+unfolding range_size
+returns c = (rw (ne_eqb _ _ c.if-version-eq1.false), omega (arith, c.requires.0, c.requires.1))

@@ -1,0 +1,16 @@
+use borrow.Author.Rules.{rules}
+use mathlib.Core.Path.{refl}
+use native.Mathlib.Omega.{arith}
+use Rattle.utf8.specs.Machine.{between}
+use Rattle.utf8.specs.Rows.{rows_of}
+use Rattle.utf8.proofs.Stops.{read_good}
+use Rattle.utf8.proofs.ends_well.Goals as goal
+
+pub run-requires : goal.run-requires
+unfolding rows_of
+run-requires c = let p = c.requires in (refl, omega (arith, p.0), omega (arith, p.1), between)
+
+pub returns : goal.returns
+returns c =
+    let a = c.args in
+    read_good a.t.now a.o a.to _ c.requires.0 c.requires.1 c.requires.2 c.run.ensures.0

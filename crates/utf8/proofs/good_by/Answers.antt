@@ -1,0 +1,23 @@
+use native.Mathlib.Omega.{arith}
+use borrow.Author.Rules.{rules}
+use Rattle.utf8.specs.Machine.{between}
+use Rattle.utf8.proofs.Stops.{by_next, by_state}
+use Rattle.utf8.proofs.good_by.Goals as goal
+
+pub run-r-requires : goal.run-r-requires
+run-r-requires c =
+    let p = c.requires in
+    let q = c.past-p.ensures in
+    (p.0, omega (arith, q.1), q.3, between)
+
+pub returns-then-r-eq6 : goal.returns-then-r-eq6
+returns-then-r-eq6 c =
+    let a = c.args in
+    let q = c.past-p.ensures in
+    by_next a.t.now a.o a.to _ _ c.requires.1 c.requires.2 q.0 q.3 c.run-r.ensures.0 a.next c.requires.3 c.if-r-eq6.true
+
+pub returns : goal.returns
+returns c =
+    let a = c.args in
+    let q = c.past-p.ensures in
+    by_state a.t.now a.o a.to _ _ c.requires.1 c.requires.2 q.0 q.3 c.run-r.ensures.0 c.if-r-eq6.false

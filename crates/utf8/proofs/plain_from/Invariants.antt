@@ -1,0 +1,14 @@
+use Prim.Native.Nat.{◌-◌, ◌≤◌, ◌<◌}
+use native.Mathlib.Omega.{arith}
+use borrow.Author.Rules.{rules}
+use borrow.Author.Tests.{lt-ltb, ltb-true}
+use lib.ListN.{length}
+use Rattle.utf8.proofs.Plain.{AtMost, most_none, most_more, most_below, most_plain}
+use Rattle.psv0_layout.specs.Position.{PlainFrom}
+use Rattle.utf8.proofs.plain_from.Given as goal
+
+abbrev pub invariant-loop-i : goal.invariant-loop-i
+invariant-loop-i l = (l.from ≤ l.i) × AtMost l.t l.from l.i l.most × (PlainFrom l.t l.from → l.most < 128)
+
+abbrev pub decreases-loop-i : goal.decreases-loop-i
+decreases-loop-i l = length l.t - l.i

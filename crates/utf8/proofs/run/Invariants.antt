@@ -1,0 +1,12 @@
+use Prim.Native.Nat.{◌≤◌, ◌-◌}
+use mathlib.Core.Path.{◌≡◌}
+use native.Mathlib.Omega.{arith}
+use Rattle.utf8.specs.Machine.{State, ran}
+use Rattle.utf8.proofs.Rows.{run_begin, run_more, state_small}
+use Rattle.utf8.proofs.run.Given as goal
+
+abbrev pub invariant-loop-p : goal.invariant-loop-p
+invariant-loop-p l = (l.from ≤ l.p) × (l.p ≤ l.to) × (l.s ≡ ran l.t l.from (l.p - l.from) l.state) × State l.s
+
+abbrev pub decreases-loop-p : goal.decreases-loop-p
+decreases-loop-p l = l.to - l.p
