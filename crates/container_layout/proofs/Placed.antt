@@ -43,17 +43,17 @@ module _ (k : ℕ) (b : List ℕ) (h : container_judged k b ≡ Accepted) where
   -- the record of an opening that accepts answers every question as a query on the bytes does
   pub answers_fresh : (q : Question) → answered_by (container_places k b) b q ≡ record { verdict = queried (container_judged k b) (container_answered k b q); value = container_answered k b q }
   unfolding container_places container_answered
-  answers_fresh q = rw h (fresh.answers-fresh psv_there k (data_opens k b h) q)
+  answers_fresh q = rw h (fresh.answers_fresh psv_there k (data_opens k b h) q)
 
   -- and hands out the same bytes of every section
   pub hands_fresh : (t : Section) → handed_by (container_places k b) b t ≡ given (view (handed (edition_read_of k (psv_of b)) (psv_of b) t))
   unfolding container_places
-  hands_fresh t = fresh.hands-fresh psv_there k (data_opens k b h) t
+  hands_fresh t = fresh.hands_fresh psv_there k (data_opens k b h) t
 
   -- so of the runtime info as a whole
   pub info_fresh : info_by (container_places k b) b ≡ info_answer_of (container_judged k b) (container_answered k b)
   unfolding container_places container_answered
-  info_fresh = fresh.info-fresh psv_there k (data_opens k b h) ∙ (λ i. info_answer_of (sym h i) (λ q. shows q i))
+  info_fresh = fresh.info_fresh psv_there k (data_opens k b h) ∙ (λ i. info_answer_of (sym h i) (λ q. shows q i))
     where
       shows : (q : Question) → shown k (psv_of b) q ≡ container_answered k b q
       shows q = rw h

@@ -31,7 +31,7 @@ skipped k v s (r ∷ l) h = rw h.0 (skipped k v s l h.1)
 joined : (k v : ℕ) (s : Setting) (a b : List Row) → latest k v s (a ++ b) ≡ latest k v (latest k v s a) b
 unfolding latest
 joined k v s [] b = refl
-joined k v s (r ∷ a) b = joined k v _ a b
+joined k v s (r ∷ a) b = joined k v (choose (tells k v r) (Set r.value) s) a b
 
 pub told_by_last : (k v : ℕ) (a : List Row) (r : Row) (b : List Row) → tells k v r ≡ true → NoneTells k v b → setting_at k v (a ++ (r ∷ b)) ≡ Set r.value
 unfolding setting_at latest

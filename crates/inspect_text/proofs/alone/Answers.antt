@@ -7,4 +7,4 @@ use Rattle.inspect_text.proofs.alone.Goals as goal
 pub returns : goal.returns
 returns c =
     let made = output_made _ c.put.ensures refl (omega arith) in
-    (made, output_counts _ made)
+    record { value = made; prefix_len = output_counts _ made; }

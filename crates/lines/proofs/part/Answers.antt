@@ -15,4 +15,4 @@ returns c =
     let f = m.1.0 in
     let j = m.1.1 in
     let made = part_line_lem _ _ _ name c.put-2.ensures n.0 m.0 e f (omega arith) in
-    (made, (omega arith, line_counts _ made))
+    record { value = made; len_bound = omega arith; prefix_len = line_counts _ made; }

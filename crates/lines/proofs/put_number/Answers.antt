@@ -10,7 +10,7 @@ returns c =
     let d = c.decimal-k.ensures.1 in
     let l = spelled_length _ _ _ d.0 d.1 in
     let k = spelled_short _ _ _ d.0 d.1 (omega arith) in
-    (c.put.ensures ∙ ap (placed _ _) (spelled _ _ _ d.0 d.1), (omega arith, omega arith))
+    record { out_after = c.put.ensures ∙ ap (placed _ _) (spelled _ _ _ d.0 d.1); value = omega arith; n_len_bound = omega arith; }
 
 pub overflow_add-result : goal.overflow_add-result
 overflow_add-result c =

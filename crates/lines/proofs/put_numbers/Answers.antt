@@ -13,7 +13,4 @@ returns c =
     let second = c.put_number.ensures in
     let e = first.1.0 in
     let k = first.1.1 in
-    let m = second.1.1 in (
-      three_put _ _ _ _ _ first.0 space-put.put.ensures second.0 (sym e) refl (omega arith),
-      (numbers_end _ _ _ e second.1.0, numbers_short _ _ k m),
-    )
+    let m = second.1.1 in record { out_after = three_put _ _ _ _ _ first.0 space-put.put.ensures second.0 (sym e) refl (omega arith); value = numbers_end _ _ _ e second.1.0; n_len_bound = numbers_short _ _ k m; }

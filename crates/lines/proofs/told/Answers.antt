@@ -9,4 +9,4 @@ returns c =
     let e = n.1.0 in
     let k = n.1.1 in
     let made = told_line _ _ _ c.put.ensures n.0 c.put-2.ensures e (omega arith) in
-    (made, (omega arith, line_counts _ made))
+    record { value = made; len_bound = omega arith; prefix_len = line_counts _ made; }

@@ -4,4 +4,4 @@ use borrow.Author.Rules.{rules}
 use Rattle.qollqamir.proofs.qollqamir_assemble.Goals as goal
 
 pub returns : goal.returns
-returns c = (c.c_assembly.ensures ∙ ap c_assembly c.assemble.ensures.value, c.assemble.ensures.out_after)
+returns c = record { value = c.c_assembly.ensures ∙ ap c_assembly c.assemble.ensures.value; out_after = c.assemble.ensures.out_after; }

@@ -8,4 +8,4 @@ pub c_replaced-requires : goal.c_replaced-requires
 c_replaced-requires c = replaced_small _ _ _ _ c.replace_psv0.ensures.answered
 
 pub returns : goal.returns
-returns c = (c.c_replaced.ensures ∙ ap c_replaced c.replace_psv0.ensures.answered, c.replace_psv0.ensures.left)
+returns c = record { value = c.c_replaced.ensures ∙ ap c_replaced c.replace_psv0.ensures.answered; out_after = c.replace_psv0.ensures.left; }

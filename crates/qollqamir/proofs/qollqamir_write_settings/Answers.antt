@@ -4,4 +4,4 @@ use borrow.Author.Rules.{rules}
 use Rattle.qollqamir.proofs.qollqamir_write_settings.Goals as goal
 
 pub returns : goal.returns
-returns c = (c.c_settings_written.ensures ∙ ap c_settings_written c.write.ensures.answered, c.write.ensures.left)
+returns c = record { value = c.c_settings_written.ensures ∙ ap c_settings_written c.write.ensures.answered; out_after = c.write.ensures.left; }

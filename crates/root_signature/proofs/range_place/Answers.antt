@@ -6,8 +6,8 @@ use Rattle.root_signature.proofs.range_place.Goals as goal
 
 pub returns-then-version-eq1 : goal.returns-then-version-eq1
 unfolding range_size
-returns-then-version-eq1 c = (rw (eq-eqb _ _ c.if-version-eq1.true), omega (arith, c.requires.0, c.requires.1))
+returns-then-version-eq1 c = record { value = rw (eq-eqb _ _ c.if-version-eq1.true); upper_bound = omega (arith, c.requires.0, c.requires.1); }
 
 pub returns : goal.returns
 unfolding range_size
-returns c = (rw (ne_eqb _ _ c.if-version-eq1.false), omega (arith, c.requires.0, c.requires.1))
+returns c = record { value = rw (ne_eqb _ _ c.if-version-eq1.false); upper_bound = omega (arith, c.requires.0, c.requires.1); }
