@@ -1,5 +1,4 @@
 use native.Mathlib.Omega.{arith}
-use borrow.Author.Rules.{rules}
 use lib.ListN.{length}
 use Rattle.psv0_layout.proofs.References.{whole_slice, no_zero_begin, last_zero_none}
 use Rattle.psv0_layout.proofs.Judgements.{zero_found}

@@ -1,9 +1,6 @@
-use Prim.Native.Nat.{◌-◌, ◌≤◌}
-use mathlib.Core.Path.{◌≡◌}
 use mathlib.Core.Logic.{inl, inr}
 use native.Mathlib.Omega.{arith}
 use borrow.Author.Rules.{rules}
-use Rattle.psv0_layout.specs.Position.{NoZero}
 use Rattle.psv0_layout.proofs.References.{no_zero_begin, no_zero_one, no_zero_join}
 use Rattle.strings.proofs.first_zero.Goals as goal
 

@@ -1,6 +1,5 @@
 use mathlib.Core.Logic.{inr, ⊎_elim}
 use native.Mathlib.Omega.{arith}
-use borrow.Author.Rules.{rules}
 use Rattle.psv0_layout.proofs.References.{no_zero_join, string_past, string_stops}
 use Rattle.strings.proofs.Compared.{string_length}
 use Rattle.strings.proofs.len_at.Goals as goal

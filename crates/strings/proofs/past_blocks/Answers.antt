@@ -1,8 +1,6 @@
-use Prim.Native.Nat.{◌+◌, ◌-◌, ◌≤◌}
+use Prim.Native.Nat.{◌+◌}
 use native.Mathlib.Omega.{arith}
 use borrow.Author.Rules.{rules}
-use lib.ListN.{length}
-use Rattle.psv0_layout.specs.Position.{NoZero}
 use Rattle.psv0_layout.proofs.References.{no_zero_begin, no_zero_join, no_zero_part}
 use Rattle.strings.proofs.past_blocks.Goals as goal
 

@@ -1,10 +1,5 @@
-use Prim.Native.Nat.{◌-◌}
-use mathlib.Core.Path.{◌≡◌, refl, sym, ◌∙◌}
+use mathlib.Core.Path.{refl, sym, ◌∙◌}
 use native.Mathlib.Omega.{arith}
-use borrow.Author.Rules.{rules}
-use lib.ListN.{length}
-use Rattle.wire.specs.Stretch.{same_bytes}
-use Rattle.psv0_layout.specs.Reference.{string_at}
 use Rattle.psv0_layout.proofs.References.{string_past}
 use Rattle.strings.proofs.Compared.{byte_inside, same_goes, same_stops, same_not, same_end}
 use Rattle.strings.proofs.same.Goals as goal

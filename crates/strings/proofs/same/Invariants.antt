@@ -1,12 +1,8 @@
 use Prim.Native.Nat.{◌-◌}
-use mathlib.Core.Path.{◌≡◌, refl, sym, ◌∙◌}
-use native.Mathlib.Omega.{arith}
-use borrow.Author.Rules.{rules}
+use mathlib.Core.Path.{◌≡◌}
 use lib.ListN.{length}
 use Rattle.wire.specs.Stretch.{same_bytes}
 use Rattle.psv0_layout.specs.Reference.{string_at}
-use Rattle.psv0_layout.proofs.References.{string_past}
-use Rattle.strings.proofs.Compared.{byte_inside, same_goes, same_stops, same_not, same_end}
 use Rattle.strings.proofs.same.Given as goal
 
 -- what is left to compare decides

@@ -1,11 +1,6 @@
 use Prim.Native.Nat.{◌≤◌}
-use mathlib.Core.Path.{◌≡◌}
-use native.Mathlib.Omega.{arith}
-use borrow.Author.Rules.{rules}
 use lib.ListN.{length}
 use Rattle.psv0_layout.specs.Position.{NoZero}
-use Rattle.psv0_layout.proofs.References.{last_zero_none}
-use Rattle.psv0_layout.proofs.Judgements.{zero_found, zero_sought}
 use Rattle.strings.proofs.search_end.Given as goal
 
 abbrev pub invariant-loop-i : goal.invariant-loop-i

@@ -1,10 +1,6 @@
-use Prim.Native.Nat.{◌+◌, ◌-◌, ◌≤◌}
-use mathlib.Core.Path.{◌≡◌}
-use native.Mathlib.Omega.{arith}
-use borrow.Author.Rules.{rules}
+use Prim.Native.Nat.{◌≤◌}
 use lib.ListN.{length}
 use Rattle.psv0_layout.specs.Position.{NoZero}
-use Rattle.psv0_layout.proofs.References.{no_zero_begin, no_zero_join}
 use Rattle.strings.proofs.without_zero.Given as goal
 
 abbrev pub invariant-loop-i : goal.invariant-loop-i
