@@ -88,6 +88,17 @@ def declared():
                     depth = None
                 elif m := re.match(r" *(?:pub )?(\S+) :", line):
                     fields.add(m[1])
+        # A constructor may share its line with others; an alias of a `use` line is a name too.
+        inside = False
+        for line in text.split("\n"):
+            if re.match(r"(?:(?:abbrev|unfoldable|pub) )*data ", line):
+                inside = True
+            elif line and not line[0].isspace():
+                inside = False
+            elif inside and (m := re.match(r" +((?:\S+ )+):(?= )", line)):
+                seen |= {it: snake(it) for it in m[1].split() if snake(it) != it}
+        seen |= {it: snake(it) for it in re.findall(r"(?m)^use .* as ([a-z]+[A-Z]\w*)", text)}
+        seen |= {it: snake(it) for it in re.findall(r"\w as ([a-z]+[A-Z]\w*)[,}]", text)}
     humps = {new for name, new in seen.items() if "-" not in name}
     names = {}
     for name, new in seen.items():

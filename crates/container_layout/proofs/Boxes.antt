@@ -12,12 +12,12 @@ use Rattle.wire.specs.declared.Verdict.{Verdict}
 use Rattle.wire.specs.declared.Verdict.TheVariants.{Accepted, Refused}
 use Rattle.part_table_layout.specs.Lookup.{find}
 use Rattle.part_table_layout.specs.Table.{count_of, offset_at, name_at, size_at, data_at, end_at, earliest, part_judged, may_repeat, may_stand, name_judged, header_judged, parts_judged, table_judged}
-use Rattle.utf8_layout.specs.Sequence.{table, fits, front, more, after, counted as sequencesOf, well_formed, code_points}
+use Rattle.utf8_layout.specs.Sequence.{table, fits, front, more, after, counted as sequences_of, well_formed, code_points}
 use Rattle.psv0_layout.specs.Field.{words, mask_words_of, sum}
 use Rattle.psv0_layout.specs.Judged.{head_judged, fields_judged, body_fits, element_judged, elements_judged, entry_judged, judged_at}
 use Rattle.psv0_layout.specs.Layout.{default_edition, counted, after_counted, counted_fits, records, after_records, records_fit, rows, sections, body_of, seen}
 use Rattle.psv0_layout.specs.Reference.{has_zero, until_zero, string_ends, string_good, string_at, index_good, array_at}
-use Rattle.psv0_layout.specs.Shown.{Value, unset, number as points, view, entryName, entryPoints, value, shown_at}
+use Rattle.psv0_layout.specs.Shown.{Value, unset, number as points, view, entry_name, entry_points, value, shown_at}
 use Rattle.container_layout.specs.Container.{psv_of, before_psv, container_judged, container_answered}
 
 abbrev zeros : ℕ → List ℕ
@@ -57,7 +57,7 @@ pub data Row : Type 0 where
 abbrev by : ℕ → List ℕ → Row
 by k d =
     opens (length (boxed d)) (length (psv_of (boxed d))) (container_judged k (boxed d)) (file_edition_of (u32_at (psv_of (boxed d)) 0))
-    (container_answered k (boxed d) entryName) (container_answered k (boxed d) entryPoints)
+    (container_answered k (boxed d) entry_name) (container_answered k (boxed d) entry_points)
 
 abbrev main : Value
 main = view (109 ∷ 97 ∷ 105 ∷ 110 ∷ [])
@@ -125,5 +125,5 @@ said =
     ∷ []
 
 pub boxes_hold : given ≡ said
-unfolding u16_at u32_at ◌then◌ check when from each find count_of offset_at name_at size_at data_at end_at earliest part_judged may_repeat may_stand name_judged header_judged parts_judged table_judged mask_words_of sum head_judged fields_judged body_fits element_judged elements_judged entry_judged judged_at counted after_counted counted_fits records after_records records_fit rows sections body_of seen has_zero until_zero table fits front more after sequencesOf well_formed code_points string_ends string_good string_at index_good array_at value shown_at psv_of before_psv container_judged container_answered
+unfolding u16_at u32_at ◌then◌ check when from each find count_of offset_at name_at size_at data_at end_at earliest part_judged may_repeat may_stand name_judged header_judged parts_judged table_judged mask_words_of sum head_judged fields_judged body_fits element_judged elements_judged entry_judged judged_at counted after_counted counted_fits records after_records records_fit rows sections body_of seen has_zero until_zero table fits front more after sequences_of well_formed code_points string_ends string_good string_at index_good array_at value shown_at psv_of before_psv container_judged container_answered
 boxes_hold = refl

@@ -15,7 +15,7 @@ use Rattle.part_table_layout.specs.Lookup.{find}
 use Rattle.part_table_layout.specs.declared.Found.{Found}
 use Rattle.part_table_layout.specs.declared.Found.TheVariants.{At, Nothing}
 use Rattle.psv0_layout.specs.Answers.{field_of}
-use Rattle.psv0_layout.specs.Shown.{stageNumber}
+use Rattle.psv0_layout.specs.Shown.{stage_number}
 use Rattle.psv0_layout.specs.declared.Field.TheVariants.{Unset}
 use Rattle.container_layout.specs.Container.{dxil, psv0, is_there, size_found, psv_of, container_judged}
 use Rattle.container_layout.specs.Report.{data_named, reported}
@@ -82,7 +82,7 @@ pub record ProgramsAgree (i j : ℕ) (b : List ℕ) : Type 0 where
 module _ (i j : ℕ) (b : List ℕ) (h : i ≤ j) (l : j ≤ 3) where
   stage_newer : container_judged j b ≡ Accepted → (psv_stage i b ≡ Unset → ⊥) → psv_stage j b ≡ psv_stage i b
   unfolding psv_stage
-  stage_newer o u = ap field_of ((editions_agree i j b h l).shows o stageNumber (λ e. u (rw e)))
+  stage_newer o u = ap field_of ((editions_agree i j b h l).shows o stage_number (λ e. u (rw e)))
 
   pub programs_agree : ProgramsAgree i j b
   unfolding program_report_of bitcode_reported
@@ -118,7 +118,7 @@ module _ (k : ℕ) (b b' : List ℕ) (o : container_judged k b ≡ Accepted) (lo
   program_kept =
       let v : program_reported k b' ≡ program_reported k b = unfold program_reported in report_kept k b b' w dxil not_psv0 program_judged o long in
       let d : data_named b' dxil ≡ data_named b dxil = data_kept k b b' w dxil not_psv0 in
-      let p : psv_stage k b' ≡ psv_stage k b = unfold psv_stage in ap field_of ((widening_kept k b b' o long w).shows stageNumber) in
+      let p : psv_stage k b' ≡ psv_stage k b = unfold psv_stage in ap field_of ((widening_kept k b b' o long w).shows stage_number) in
       record {
         verdict = verdict_is k b' ∙ v ∙ sym (verdict_is k b);
         header = rw v (header_if k k b b' d (program_reported k b));

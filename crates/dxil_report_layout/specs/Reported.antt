@@ -6,7 +6,7 @@ use Rattle.wire.specs.declared.Verdict.{Verdict}
 use Rattle.wire.specs.declared.Verdict.TheVariants.{Accepted, Refused}
 use Rattle.part_table_layout.specs.Lookup.{find}
 use Rattle.psv0_layout.specs.Answers.{field_of, bytes_beside}
-use Rattle.psv0_layout.specs.Shown.{stageNumber}
+use Rattle.psv0_layout.specs.Shown.{stage_number}
 use Rattle.psv0_layout.specs.declared.Field.{Field}
 use Rattle.psv0_layout.specs.declared.Field.TheVariants.{Set, Unset}
 use Rattle.container_layout.specs.Container.{dxil, start_found, container_answered}
@@ -22,7 +22,7 @@ program_reported k b = reported program_judged dxil k b
 
 -- the stage that PSV0 shows
 unfoldable pub psv_stage : ℕ → List ℕ → Field
-psv_stage k b = field_of (container_answered k b stageNumber)
+psv_stage k b = field_of (container_answered k b stage_number)
 
 -- "equal, different or unset": the 16-bit stage s and PSV0's are compared as numbers; unset exactly where PSV0's is
 abbrev pub equal_if : Bool → Stages

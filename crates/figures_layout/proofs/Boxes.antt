@@ -11,7 +11,7 @@ use Rattle.part_table_layout.specs.Lookup.{find}
 use Rattle.part_table_layout.specs.Table.{count_of, offset_at, name_at, size_at, data_at, end_at, earliest, part_judged, may_repeat, may_stand, name_judged, header_judged, parts_judged, table_judged}
 use Rattle.psv0_layout.specs.Field.{mask_words_of, sum}
 use Rattle.psv0_layout.specs.Judged.{head_judged, fields_judged, body_fits, element_judged, elements_judged, entry_judged, judged_at}
-use Rattle.psv0_layout.specs.Layout.{counted as countedBytes, after_counted, counted_fits, records, after_records, records_fit, rows, sections, body_of, seen}
+use Rattle.psv0_layout.specs.Layout.{counted as counted_bytes, after_counted, counted_fits, records, after_records, records_fit, rows, sections, body_of, seen}
 use Rattle.psv0_layout.specs.Reference.{has_zero, until_zero, string_ends, string_good, string_at}
 use Rattle.psv0_layout.specs.Shown.{value, shown_at}
 use Rattle.psv0_layout.specs.declared.Field.{Field}
@@ -53,7 +53,7 @@ said =
     ∷ []
 
 pub history_holds : given ≡ said
-unfolding history answer_of u16_at u32_at ◌then◌ check when from each find count_of offset_at name_at size_at data_at end_at earliest part_judged may_repeat may_stand name_judged header_judged parts_judged table_judged mask_words_of sum head_judged fields_judged body_fits element_judged elements_judged entry_judged judged_at countedBytes after_counted counted_fits records after_records records_fit rows sections body_of seen has_zero until_zero string_ends string_good string_at utf8.table utf8.fits utf8.front utf8.more utf8.after utf8.counted utf8.wellFormed value shown_at psv_of before_psv container_judged container_answered
+unfolding history answer_of u16_at u32_at ◌then◌ check when from each find count_of offset_at name_at size_at data_at end_at earliest part_judged may_repeat may_stand name_judged header_judged parts_judged table_judged mask_words_of sum head_judged fields_judged body_fits element_judged elements_judged entry_judged judged_at counted_bytes after_counted counted_fits records after_records records_fit rows sections body_of seen has_zero until_zero string_ends string_good string_at utf8.table utf8.fits utf8.front utf8.more utf8.after utf8.counted utf8.well_formed value shown_at psv_of before_psv container_judged container_answered
 history_holds = refl
 
 -- ---- the figures of the first of these histories, by what is counted: `opened 5 accepted 3 refused 2 bytes 364`

@@ -6,7 +6,7 @@ use Rattle.wire.specs.Number.{u32_at}
 use Rattle.wire.specs.declared.Verdict.{Verdict}
 use Rattle.wire.specs.declared.Verdict.TheVariants.{Accepted, Refused}
 use Rattle.psv0_layout.specs.Answers.{field_of, number_beside}
-use Rattle.psv0_layout.specs.Shown.{stageNumber}
+use Rattle.psv0_layout.specs.Shown.{stage_number}
 use Rattle.psv0_layout.specs.declared.Field.{Field}
 use Rattle.psv0_layout.specs.declared.Field.TheVariants.{Set, Unset}
 use Rattle.container_layout.specs.Container.{psv_of, container_judged, container_answered}
@@ -18,7 +18,7 @@ answer_of k b =
     record {
       verdict = container_judged k b;
       file_edition = number_beside (container_judged k b) (file_edition_of (u32_at (psv_of b) 0));
-      stage = field_of (container_answered k b stageNumber);
+      stage = field_of (container_answered k b stage_number);
       len = length b;
     }
 

@@ -15,7 +15,7 @@ use Rattle.lines.specs.Line.{numbers, accepted_line, refused_line, printable, na
 use Rattle.lines.specs.Number.{decimal}
 use Rattle.part_table_layout.specs.Lookup.{find}
 use Rattle.part_table_layout.specs.Table.{count_of, offset_at, name_at, size_at, data_at, end_at, earliest, part_judged, may_repeat, may_stand, name_judged, header_judged, parts_judged, table_judged}
-use Rattle.utf8_layout.specs.Sequence.{table, fits, front, more, after, counted as sequencesOf, well_formed}
+use Rattle.utf8_layout.specs.Sequence.{table, fits, front, more, after, counted as sequences_of, well_formed}
 use Rattle.psv0_layout.specs.Field.{mask_words_of, sum}
 use Rattle.psv0_layout.specs.Judged.{head_judged, fields_judged, body_fits, element_judged, elements_judged, entry_judged, judged_at}
 use Rattle.psv0_layout.specs.Layout.{default_edition, counted, after_counted, counted_fits, records, after_records, records_fit, rows, sections, body_of, seen}
@@ -56,7 +56,7 @@ said =
     ∷ []
 
 pub boxes_hold : given ≡ said
-unfolding u16_at u32_at ◌then◌ check when from each find count_of offset_at name_at size_at data_at end_at earliest part_judged may_repeat may_stand name_judged header_judged parts_judged table_judged mask_words_of sum head_judged fields_judged body_fits element_judged elements_judged entry_judged judged_at counted after_counted counted_fits records after_records records_fit rows sections body_of seen has_zero until_zero table fits front more after sequencesOf well_formed string_ends string_good string_at index_good array_at psv_of before_psv container_judged is_known decimal numbers accepted_line refused_line printable name_text mark part_line part_lines printed_if printed_at inspected
+unfolding u16_at u32_at ◌then◌ check when from each find count_of offset_at name_at size_at data_at end_at earliest part_judged may_repeat may_stand name_judged header_judged parts_judged table_judged mask_words_of sum head_judged fields_judged body_fits element_judged elements_judged entry_judged judged_at counted after_counted counted_fits records after_records records_fit rows sections body_of seen has_zero until_zero table fits front more after sequences_of well_formed string_ends string_good string_at index_good array_at psv_of before_psv container_judged is_known decimal numbers accepted_line refused_line printable name_text mark part_line part_lines printed_if printed_at inspected
 boxes_hold = refl
 
 -- a file that an opening without an edition refuses with 24 is printed as one of edition 3 that is accepted

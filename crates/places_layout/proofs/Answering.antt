@@ -21,11 +21,11 @@ use Rattle.wire.proofs.Choices.{both}
 use Rattle.psv0_layout.specs.Field.{stage, vertex_count, vertex_stage, patch_byte, patch_stage, topology, mesh_stage, thread_count, thread_stage, mask_words_of, sum, name_offset_of, index_reference_of, row_count}
 use Rattle.psv0_layout.specs.Layout.{Sections, Seen, rows, body_of, resource_width, seen}
 use Rattle.psv0_layout.specs.Reference.{string_good, string_at, index_good, array_at}
-use Rattle.psv0_layout.specs.Shown.{Value, unset, number, view, Question, stageUnion, leastLanes, mostLanes, stageNumber, usesView, maxVertexCount, patchVectorCount, meshTopology, inputElements, outputElements, patchElements, inputVectorCount, outputVectorCount, threads, entry_name_offset_of, resourceField, elementField, elementString, element_points, elementArray, mask, entryName, entryPoints, resourceCount, stringBytes, indexCount, elementCount, needs, set_if, value, is_set, queried}
+use Rattle.psv0_layout.specs.Shown.{Value, unset, number, view, Question, stage_union, least_lanes, most_lanes, stage_number, uses_view, max_vertex_count, patch_vector_count, mesh_topology, input_elements, output_elements, patch_elements, input_vector_count, output_vector_count, threads, entry_name_offset_of, resource_field, element_field, element_string, element_points, element_array, mask, entry_name, entry_points, resource_count, string_bytes, index_count, element_count, needs, set_if, value, is_set, queried}
 use Rattle.psv0_layout.proofs.Masks.{sum_inside}
 use Rattle.psv0_layout.proofs.Positions.{rows_length, rows_at, part_part}
 use Rattle.psv0_layout.proofs.Wholes.{width_fits}
-use Rattle.places_layout.specs.Read.{body_by, seen_by, Source, in_runtime, of_stage, inResource, inElement, aString, anArray, aMask, the_name, a_length, source_of, is_there, readable, value_by, Answer, given, refusal, answered_from, answered_by}
+use Rattle.places_layout.specs.Read.{body_by, seen_by, Source, in_runtime, of_stage, in_resource, in_element, a_string, an_array, a_mask, the_name, a_length, source_of, is_there, readable, value_by, Answer, given, refusal, answered_from, answered_by}
 use Rattle.places_layout.specs.declared.SectionPlaces.{SectionPlaces}
 use Rattle.places_layout.proofs.Holding.{HoldsBody, Holds, Good, body_same, seen_same}
 
@@ -101,7 +101,7 @@ module _ {p : SectionPlaces} {b : List ℕ} {er : ℕ} {s : Sections} (h : Holds
   -- ---- resource records
   module _ (i f : ℕ) where
     abbrev e : ℕ
-    e = needs (resourceField i f)
+    e = needs (resource_field i f)
 
     abbrev w : ℕ
     w = resource_width e s.resources.stride
@@ -131,16 +131,16 @@ module _ {p : SectionPlaces} {b : List ℕ} {er : ℕ} {s : Sections} (h : Holds
             let z : get_or rs i [] ≡ [] = get_or-eq_default rs [] n in
             rw (z, lt-leb (f * 4 + 4) 0 (omega arith)) (and_false (ltb f 6))
 
-    resource_answer : e ≤ er → sourced p b (inResource i f) (resourceField i f) ≡ answer_of (value (resourceField i f) (seen e s))
+    resource_answer : e ≤ er → sourced p b (in_resource i f) (resource_field i f) ≡ answer_of (value (resource_field i f) (seen e s))
     unfolding is_there readable value_by value seen
     resource_answer l =
-        let there : (ltb f 6 && leb (f * 4 + 4) (length (get_or rs i []))) ≡ is_there p (inResource i f) = rw (h.count, h.stride) row_test in
-        from_source p b (inResource i f) (resourceField i f) (value (resourceField i f) (seen e s)) (set_if_lem _ (number _) refl ∙ there)
+        let there : (ltb f 6 && leb (f * 4 + 4) (length (get_or rs i []))) ≡ is_there p (in_resource i f) = rw (h.count, h.stride) row_test in
+        from_source p b (in_resource i f) (resource_field i f) (value (resource_field i f) (seen e s)) (set_if_lem _ (number _) refl ∙ there)
         (λ t.
         let k : i < p.resource_count = ltb-true _ _ (both (ltb i p.resource_count) _ t).0 in
         let n : resource_width p.edition p.resource_size ≤ p.resource_size = width_fits p.edition _ (h.enough (omega arith)) in
         le-leb _ _ (row_end_lem p.resource_count p.resource_size i _ p.resources (length b) k n h.resources_fit))
-        (λ t. ap (value (resourceField i f)) (seen_same h e l))
+        (λ t. ap (value (resource_field i f)) (seen_same h e l))
 
   -- ---- lists' lengths
   length_answer : (q : Question) (n m : ℕ) → n ≡ m → sourced p b (a_length n) q ≡ answer_of (number m)
@@ -169,17 +169,17 @@ module _ {p : SectionPlaces} {b : List ℕ} {er : ℕ} {s : Sections} (h : Holds
       there : (x : Value) → is_set x ≡ true → is_set (set_if (ltb i (length (seen 1 s).body.elements)) x) ≡ ltb i p.element_count
       there x e = rw elements_long (set_if_lem _ x e)
 
-      element_answer : (f : ℕ) → sourced p b (inElement i f) (elementField i f) ≡ answer_of (value (elementField i f) (seen 1 s))
+      element_answer : (f : ℕ) → sourced p b (in_element i f) (element_field i f) ≡ answer_of (value (element_field i f) (seen 1 s))
       unfolding is_there readable value_by value
       element_answer f =
-          from_source p b (inElement i f) (elementField i f) (value (elementField i f) (seen 1 s))
+          from_source p b (in_element i f) (element_field i f) (value (element_field i f) (seen 1 s))
           (set_both (ltb i (length (seen 1 s).body.elements)) (ltb f 13) (ltb i p.element_count) _ (ap (ltb i) elements_long))
           (λ t. le-leb _ _ (element_fits (ltb-true _ _ (both (ltb i p.element_count) (ltb f 13) t).0)))
-          (λ t. ap (value (elementField i f)) (seen_same h 1 one))
+          (λ t. ap (value (element_field i f)) (seen_same h 1 one))
 
       -- what element i refers to is read by good references
       module _ (k : Good er s) where
-        string_good_lem : ltb i p.element_count ≡ true → readable p b (aString i) ≡ true
+        string_good_lem : ltb i p.element_count ≡ true → readable p b (a_string i) ≡ true
         unfolding readable
         string_good_lem t =
             let l : i < p.element_count = ltb-true _ _ t in
@@ -187,33 +187,33 @@ module _ {p : SectionPlaces} {b : List ℕ} {er : ℕ} {s : Sections} (h : Holds
             rw (body_same h one) (unfold body_of in k.names one i (rw g.count at l)) in
             simp (le-leb _ _ (element_fits l), le-leb _ _ g.strings_fit, good)
 
-        string_answer : sourced p b (aString i) (elementString i) ≡ answer_of (value (elementString i) (seen 1 s))
+        string_answer : sourced p b (a_string i) (element_string i) ≡ answer_of (value (element_string i) (seen 1 s))
         unfolding is_there value_by value
         string_answer =
-            from_source p b (aString i) (elementString i) (value (elementString i) (seen 1 s))
+            from_source p b (a_string i) (element_string i) (value (element_string i) (seen 1 s))
             (there (view (string_at (seen 1 s).body.strings (name_offset_of (get_or (seen 1 s).body.elements i [])))) refl) string_good_lem
-            (λ t. ap (value (elementString i)) (seen_same h 1 one))
+            (λ t. ap (value (element_string i)) (seen_same h 1 one))
 
-        points_answer : sourced p b (aString i) (element_points i) ≡ answer_of (value (element_points i) (seen 1 s))
+        points_answer : sourced p b (a_string i) (element_points i) ≡ answer_of (value (element_points i) (seen 1 s))
         unfolding is_there value_by value
         points_answer =
-            from_source p b (aString i) (element_points i) (value (element_points i) (seen 1 s))
+            from_source p b (a_string i) (element_points i) (value (element_points i) (seen 1 s))
             (there (number (code_points (string_at (seen 1 s).body.strings (name_offset_of (get_or (seen 1 s).body.elements i []))))) refl) string_good_lem
             (λ t. ap (value (element_points i)) (seen_same h 1 one))
 
-        array_answer : sourced p b (anArray i) (elementArray i) ≡ answer_of (value (elementArray i) (seen 1 s))
+        array_answer : sourced p b (an_array i) (element_array i) ≡ answer_of (value (element_array i) (seen 1 s))
         unfolding is_there readable value_by value
         array_answer =
-            from_source p b (anArray i) (elementArray i) (value (elementArray i) (seen 1 s))
+            from_source p b (an_array i) (element_array i) (value (element_array i) (seen 1 s))
             (there (view (array_at (seen 1 s).body.indices (index_reference_of (get_or (seen 1 s).body.elements i [])) (row_count (get_or (seen 1 s).body.elements i [])))) refl)
             (λ t.
             let l : i < p.element_count = ltb-true _ _ t in
             let good : index_good (body_by p b).indices (index_reference_of (get_or (body_by p b).elements i [])) (row_count (get_or (body_by p b).elements i [])) ≡ true =
             rw (body_same h one) (unfold body_of in k.arrays one i (rw g.count at l)) in
             simp (le-leb _ _ (element_fits l), le-leb _ _ g.indices_fit, good))
-            (λ t. ap (value (elementArray i)) (seen_same h 1 one))
+            (λ t. ap (value (element_array i)) (seen_same h 1 one))
 
-    mask_answer : (m : ℕ) → sourced p b (aMask m) (mask m) ≡ answer_of (value (mask m) (seen 1 s))
+    mask_answer : (m : ℕ) → sourced p b (a_mask m) (mask m) ≡ answer_of (value (mask m) (seen 1 s))
     unfolding is_there readable value_by value seen body_of
     mask_answer m =
         let n = sum_inside p.mask_words m in
@@ -223,7 +223,7 @@ module _ {p : SectionPlaces} {b : List ℕ} {er : ℕ} {s : Sections} (h : Holds
         sym (part_part b p.masks (sum p.mask_words * 4) (sum (take m p.mask_words) * 4) (get_or p.mask_words m 0 * 4) (omega arith))
         ∙ rw (g.masks, g.words) in
         let end : p.masks + sum (take m p.mask_words) * 4 + get_or p.mask_words m 0 * 4 ≤ length b = omega arith in
-        from_source p b (aMask m) (mask m) (value (mask m) (seen 1 s)) (set_if_lem (ltb m 11) (view _) refl) (λ t. le-leb _ _ end) (λ t. rw t (ap view same))
+        from_source p b (a_mask m) (mask m) (value (mask m) (seen 1 s)) (set_if_lem (ltb m 11) (view _) refl) (λ t. le-leb _ _ end) (λ t. rw t (ap view same))
 
   -- ---- the entry name
   module _ (k : Good er s) (l : 3 ≤ er) where
@@ -242,33 +242,33 @@ module _ {p : SectionPlaces} {b : List ℕ} {er : ℕ} {s : Sections} (h : Holds
   -- ---- every question that the edition read reaches
   source_answer : Good er s → (q : Question) → needs q ≤ er → sourced p b (source_of p q) q ≡ answer_of (value q (seen (needs q) s))
   unfolding source_of value
-  source_answer k stageUnion l = runtime_answer stageUnion l true refl
-  source_answer k leastLanes l = runtime_answer leastLanes l true refl
-  source_answer k mostLanes l = runtime_answer mostLanes l true refl
-  source_answer k stageNumber l = runtime_answer stageNumber l true refl
-  source_answer k usesView l = runtime_answer usesView l true refl
-  source_answer k maxVertexCount l = stage_answer maxVertexCount l (omega arith) vertex_stage vertex_count refl
-  source_answer k patchVectorCount l = stage_answer patchVectorCount l (omega arith) patch_stage patch_byte refl
-  source_answer k meshTopology l = stage_answer meshTopology l (omega arith) mesh_stage topology refl
-  source_answer k inputElements l = runtime_answer inputElements l true refl
-  source_answer k outputElements l = runtime_answer outputElements l true refl
-  source_answer k patchElements l = runtime_answer patchElements l true refl
-  source_answer k inputVectorCount l = runtime_answer inputVectorCount l true refl
-  source_answer k (outputVectorCount i) l = runtime_answer (outputVectorCount i) l (ltb i 4) (set_if_lem (ltb i 4) (number _) refl)
+  source_answer k stage_union l = runtime_answer stage_union l true refl
+  source_answer k least_lanes l = runtime_answer least_lanes l true refl
+  source_answer k most_lanes l = runtime_answer most_lanes l true refl
+  source_answer k stage_number l = runtime_answer stage_number l true refl
+  source_answer k uses_view l = runtime_answer uses_view l true refl
+  source_answer k max_vertex_count l = stage_answer max_vertex_count l (omega arith) vertex_stage vertex_count refl
+  source_answer k patch_vector_count l = stage_answer patch_vector_count l (omega arith) patch_stage patch_byte refl
+  source_answer k mesh_topology l = stage_answer mesh_topology l (omega arith) mesh_stage topology refl
+  source_answer k input_elements l = runtime_answer input_elements l true refl
+  source_answer k output_elements l = runtime_answer output_elements l true refl
+  source_answer k patch_elements l = runtime_answer patch_elements l true refl
+  source_answer k input_vector_count l = runtime_answer input_vector_count l true refl
+  source_answer k (output_vector_count i) l = runtime_answer (output_vector_count i) l (ltb i 4) (set_if_lem (ltb i 4) (number _) refl)
   source_answer k (threads i) l = stage_answer (threads i) l (omega arith) (λ n. ltb i 3 && thread_stage n) (thread_count i) refl
   source_answer k entry_name_offset_of l = runtime_answer entry_name_offset_of l true refl
-  source_answer k (resourceField i f) l = resource_answer i f l
-  source_answer k (elementField i f) l = element_answer l i f
-  source_answer k (elementString i) l = string_answer l i k
+  source_answer k (resource_field i f) l = resource_answer i f l
+  source_answer k (element_field i f) l = element_answer l i f
+  source_answer k (element_string i) l = string_answer l i k
   source_answer k (element_points i) l = points_answer l i k
-  source_answer k (elementArray i) l = array_answer l i k
+  source_answer k (element_array i) l = array_answer l i k
   source_answer k (mask m) l = mask_answer l m
-  source_answer k entryName l = name_answer k l entryName refl refl
-  source_answer k entryPoints l = name_answer k l entryPoints refl refl
-  source_answer k resourceCount l = length_answer resourceCount _ _ (unfold seen in rw rows_length h.count)
-  source_answer k stringBytes l = length_answer stringBytes _ _ (unfold seen body_of in strings_long l)
-  source_answer k indexCount l = length_answer indexCount _ _ (unfold seen body_of in indices_long l)
-  source_answer k elementCount l = length_answer elementCount _ _ (sym (elements_long l))
+  source_answer k entry_name l = name_answer k l entry_name refl refl
+  source_answer k entry_points l = name_answer k l entry_points refl refl
+  source_answer k resource_count l = length_answer resource_count _ _ (unfold seen in rw rows_length h.count)
+  source_answer k string_bytes l = length_answer string_bytes _ _ (unfold seen body_of in strings_long l)
+  source_answer k index_count l = length_answer index_count _ _ (unfold seen body_of in indices_long l)
+  source_answer k element_count l = length_answer element_count _ _ (sym (elements_long l))
 
   -- the record answers every question as a reading of the sections does
   pub answers_same : Good er s → (q : Question) → answered_by p b q ≡ answer_of (set_if (leb (needs q) er) (value q (seen (needs q) s)))

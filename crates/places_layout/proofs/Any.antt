@@ -17,7 +17,7 @@ use Rattle.wire.specs.declared.Verdict.{Verdict}
 use Rattle.wire.specs.declared.Verdict.TheVariants.{Accepted, Refused}
 use Rattle.wire.proofs.Choices.{both}
 use Rattle.psv0_layout.specs.Layout.{resource_width}
-use Rattle.psv0_layout.specs.Shown.{Value, unset, number, view, Question, stageUnion, leastLanes, mostLanes, stageNumber, usesView, maxVertexCount, patchVectorCount, meshTopology, inputElements, outputElements, patchElements, inputVectorCount, outputVectorCount, threads, entry_name_offset_of, resourceField, elementField, elementString, element_points, elementArray, mask, entryName, entryPoints, resourceCount, stringBytes, indexCount, elementCount, needs, set_if, value, is_set}
+use Rattle.psv0_layout.specs.Shown.{Value, unset, number, view, Question, stage_union, least_lanes, most_lanes, stage_number, uses_view, max_vertex_count, patch_vector_count, mesh_topology, input_elements, output_elements, patch_elements, input_vector_count, output_vector_count, threads, entry_name_offset_of, resource_field, element_field, element_string, element_points, element_array, mask, entry_name, entry_points, resource_count, string_bytes, index_count, element_count, needs, set_if, value, is_set}
 use Rattle.psv0_layout.proofs.Positions.{rows_length}
 use Rattle.places_layout.specs.Read.{body_by, seen_by, Source, source_of, is_there, readable, value_by, Answer, given, refusal, answered_from, answered_by}
 use Rattle.places_layout.specs.declared.SectionPlaces.{SectionPlaces}
@@ -83,16 +83,16 @@ width_mono e k s h = go (leb 2 e) (leb 2 k) (leb 24 s) (leb-true 2 e) (leb-false
     go false false z f g = omega arith
 
 module _ (p : SectionPlaces) (b : List ℕ) where
-  resource_set : (i f : ℕ) → needs (resourceField i f) ≤ p.edition → is_there p (source_of p (resourceField i f)) ≡ true
-      → readable p b (source_of p (resourceField i f)) ≡ true → is_set (value (resourceField i f) (seen_by p b (needs (resourceField i f)))) ≡ true
+  resource_set : (i f : ℕ) → needs (resource_field i f) ≤ p.edition → is_there p (source_of p (resource_field i f)) ≡ true
+      → readable p b (source_of p (resource_field i f)) ≡ true → is_set (value (resource_field i f) (seen_by p b (needs (resource_field i f)))) ≡ true
   unfolding source_of is_there readable value
   resource_set i f l t u =
       let (t1, t2) = both (ltb i p.resource_count) _ t in
       let (t3, t4) = both (ltb f 6) _ t2 in
       let inside : p.resources + i * p.resource_size + resource_width p.edition p.resource_size ≤ length b = leb-true _ _ u in
-      let wide = width_mono (needs (resourceField i f)) p.edition p.resource_size l in
-      let long : length (get_or (seen_by p b (needs (resourceField i f))).resources i []) ≡ resource_width (needs (resourceField i f)) p.resource_size =
-      rw (resource_row p b (needs (resourceField i f)) i (ltb-true _ _ t1)) (length-take-le _ _ (rw length-drop (omega arith))) in
+      let wide = width_mono (needs (resource_field i f)) p.edition p.resource_size l in
+      let long : length (get_or (seen_by p b (needs (resource_field i f))).resources i []) ≡ resource_width (needs (resource_field i f)) p.resource_size =
+      rw (resource_row p b (needs (resource_field i f)) i (ltb-true _ _ t1)) (length-take-le _ _ (rw length-drop (omega arith))) in
       rw (long, t3, t4)
 
   element_there : (i : ℕ) → ltb i p.element_count ≡ true → ltb i (length (seen_by p b 1).body.elements) ≡ true
@@ -102,35 +102,35 @@ module _ (p : SectionPlaces) (b : List ℕ) where
   value_set : (q : Question) → needs q ≤ p.edition → is_there p (source_of p q) ≡ true → readable p b (source_of p q) ≡ true
       → is_set (value_by p b (source_of p q) (seen_by p b (needs q)) (value q (seen_by p b (needs q)))) ≡ true
   unfolding source_of is_there value_by value
-  value_set stageUnion l t u = refl
-  value_set leastLanes l t u = refl
-  value_set mostLanes l t u = refl
-  value_set stageNumber l t u = refl
-  value_set usesView l t u = refl
-  value_set maxVertexCount l t u = refl
-  value_set patchVectorCount l t u = refl
-  value_set meshTopology l t u = refl
-  value_set inputElements l t u = refl
-  value_set outputElements l t u = refl
-  value_set patchElements l t u = refl
-  value_set inputVectorCount l t u = refl
-  value_set (outputVectorCount i) l t u = set_true (ltb i 4) (number _) t refl
+  value_set stage_union l t u = refl
+  value_set least_lanes l t u = refl
+  value_set most_lanes l t u = refl
+  value_set stage_number l t u = refl
+  value_set uses_view l t u = refl
+  value_set max_vertex_count l t u = refl
+  value_set patch_vector_count l t u = refl
+  value_set mesh_topology l t u = refl
+  value_set input_elements l t u = refl
+  value_set output_elements l t u = refl
+  value_set patch_elements l t u = refl
+  value_set input_vector_count l t u = refl
+  value_set (output_vector_count i) l t u = set_true (ltb i 4) (number _) t refl
   value_set (threads i) l t u = refl
   value_set entry_name_offset_of l t u = refl
-  value_set (resourceField i f) l t u = resource_set i f l t u
-  value_set (elementField i f) l t u =
+  value_set (resource_field i f) l t u = resource_set i f l t u
+  value_set (element_field i f) l t u =
       let (a, c) = both (ltb i p.element_count) _ t in
       set_true _ (set_if (ltb f 13) (number _)) (element_there i a) (set_true (ltb f 13) (number _) c refl)
-  value_set (elementString i) l t u = set_true _ (view _) (element_there i t) refl
+  value_set (element_string i) l t u = set_true _ (view _) (element_there i t) refl
   value_set (element_points i) l t u = set_true _ (number _) (element_there i t) refl
-  value_set (elementArray i) l t u = set_true _ (view _) (element_there i t) refl
+  value_set (element_array i) l t u = set_true _ (view _) (element_there i t) refl
   value_set (mask m) l t u = refl
-  value_set entryName l t u = refl
-  value_set entryPoints l t u = refl
-  value_set resourceCount l t u = refl
-  value_set stringBytes l t u = refl
-  value_set indexCount l t u = refl
-  value_set elementCount l t u = refl
+  value_set entry_name l t u = refl
+  value_set entry_points l t u = refl
+  value_set resource_count l t u = refl
+  value_set string_bytes l t u = refl
+  value_set index_count l t u = refl
+  value_set element_count l t u = refl
 
   -- a value is set exactly where the verdict accepts
   pub answers_set : (q : Question) → is_set (answered_by p b q).value ≡ is_accepted (answered_by p b q).verdict

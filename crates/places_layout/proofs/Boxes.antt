@@ -4,7 +4,7 @@ use Prim.Native.Nat.{ℕ, ◌+◌}
 use mathlib.Core.Path.{◌≡◌, refl}
 use mathlib.Core.List.{List, [], ◌∷◌, ◌++◌}
 use lib.ListN.{take, replicate}
-use Rattle.utf8_layout.specs.Sequence.{table, fits, front, more, after, counted as countedIn, well_formed, code_points}
+use Rattle.utf8_layout.specs.Sequence.{table, fits, front, more, after, counted as counted_in, well_formed, code_points}
 use Rattle.wire.specs.Number.{u16_at, u32_at}
 use Rattle.wire.specs.Verdict.{◌then◌, check}
 use Rattle.wire.specs.declared.Verdict.TheVariants.{Refused}
@@ -13,7 +13,7 @@ use Rattle.psv0_layout.specs.Judged.{opened}
 use Rattle.psv0_layout.specs.Layout.{counted, after_counted, rows, edition_read_of}
 use Rattle.psv0_layout.specs.Position.{next_records, stride_at, first_record, resources_start, strings_start, indices_start, elements_start, masks_start}
 use Rattle.psv0_layout.specs.Reference.{has_zero, until_zero, string_ends, string_good, string_at, index_good, array_at}
-use Rattle.psv0_layout.specs.Shown.{number, view, Question, leastLanes, maxVertexCount, threads, resourceField, elementField, elementString, element_points, elementArray, mask, entryName, entryPoints, stringBytes, value}
+use Rattle.psv0_layout.specs.Shown.{number, view, Question, least_lanes, max_vertex_count, threads, resource_field, element_field, element_string, element_points, element_array, mask, entry_name, entry_points, string_bytes, value}
 use Rattle.places_layout.specs.Placed.{head_at, whole_at, places_at, opened_places}
 use Rattle.places_layout.specs.Read.{body_by, seen_by, source_of, is_there, readable, value_by, Answer, given, refusal, answered_from, answered_by}
 use Rattle.places_layout.specs.declared.SectionPlaces.{SectionPlaces}
@@ -63,33 +63,33 @@ great k =
 
 abbrev answers : List Answer
 answers =
-    asked (box_c 1) 3 (box_c 1) entryName
-    ∷ asked (box_c 1) 3 (box_c 1) entryPoints
+    asked (box_c 1) 3 (box_c 1) entry_name
+    ∷ asked (box_c 1) 3 (box_c 1) entry_points
     ∷ asked (box_c 1) 3 (box_c 1) (threads 0)
-    ∷ asked (box_c 1) 3 (box_c 1) maxVertexCount
-    ∷ asked (box_c 1) 3 (box_c 5) entryName
-    ∷ asked (box_c 1) 3 (box_c 8) entryName
-    ∷ asked (box_c 1) 3 (take 71 (box_c 1)) entryName
-    ∷ asked (box_c 1) 3 (take 72 (box_c 1)) entryName
-    ∷ asked (box_c 1) 3 [] stringBytes
-    ∷ asked (box_c 1) 3 [] (elementField 0 0)
+    ∷ asked (box_c 1) 3 (box_c 1) max_vertex_count
+    ∷ asked (box_c 1) 3 (box_c 5) entry_name
+    ∷ asked (box_c 1) 3 (box_c 8) entry_name
+    ∷ asked (box_c 1) 3 (take 71 (box_c 1)) entry_name
+    ∷ asked (box_c 1) 3 (take 72 (box_c 1)) entry_name
+    ∷ asked (box_c 1) 3 [] string_bytes
+    ∷ asked (box_c 1) 3 [] (element_field 0 0)
     ∷ asked (box_c 1) 3 [] (mask 11)
-    ∷ asked (box_c 1) 3 [] leastLanes
-    ∷ asked (box_c 1) 1 [] entryName
-    ∷ asked (box_c 1) 0 [] stringBytes
-    ∷ asked (box_e 0) 3 (box_e 0) (resourceField 0 3)
-    ∷ asked (box_e 0) 3 (box_e 0) (resourceField 0 4)
-    ∷ asked (box_e 0) 3 (box_e 0) (elementString 0)
+    ∷ asked (box_c 1) 3 [] least_lanes
+    ∷ asked (box_c 1) 1 [] entry_name
+    ∷ asked (box_c 1) 0 [] string_bytes
+    ∷ asked (box_e 0) 3 (box_e 0) (resource_field 0 3)
+    ∷ asked (box_e 0) 3 (box_e 0) (resource_field 0 4)
+    ∷ asked (box_e 0) 3 (box_e 0) (element_string 0)
     ∷ asked (box_e 0) 3 (box_e 0) (element_points 0)
-    ∷ asked (box_e 0) 3 (box_e 0) (elementArray 0)
-    ∷ asked (box_e 0) 3 (box_e 1) (elementArray 0)
-    ∷ asked (box_e 0) 3 (take 103 (box_e 0)) (elementField 0 12)
-    ∷ asked (box_e 0) 3 (box_e 0) (elementField 0 13)
-    ∷ answered_by (great 7) (box_e 0) entryName
-    ∷ answered_by (great 7) (box_e 0) (resourceField 4294967294 5)
-    ∷ answered_by (great 7) (box_e 0) (resourceField 4294967295 5)
-    ∷ answered_by (great 0) (box_e 0) (elementField 0 0)
-    ∷ answered_by (great 0) (box_e 0) (resourceField 0 4)
+    ∷ asked (box_e 0) 3 (box_e 0) (element_array 0)
+    ∷ asked (box_e 0) 3 (box_e 1) (element_array 0)
+    ∷ asked (box_e 0) 3 (take 103 (box_e 0)) (element_field 0 12)
+    ∷ asked (box_e 0) 3 (box_e 0) (element_field 0 13)
+    ∷ answered_by (great 7) (box_e 0) entry_name
+    ∷ answered_by (great 7) (box_e 0) (resource_field 4294967294 5)
+    ∷ answered_by (great 7) (box_e 0) (resource_field 4294967295 5)
+    ∷ answered_by (great 0) (box_e 0) (element_field 0 0)
+    ∷ answered_by (great 0) (box_e 0) (resource_field 0 4)
     ∷ []
 
 abbrev said : List Answer
@@ -131,7 +131,7 @@ said =
     ∷ []
 
 pub boxes_hold : answers ≡ said
-unfolding u16_at u32_at mask_words_of sum counted after_counted rows next_records stride_at first_record resources_start strings_start indices_start elements_start masks_start has_zero until_zero string_ends string_good string_at index_good array_at value head_at whole_at places_at body_by seen_by source_of is_there readable value_by answered_from answered_by table fits front more after countedIn well_formed code_points
+unfolding u16_at u32_at mask_words_of sum counted after_counted rows next_records stride_at first_record resources_start strings_start indices_start elements_start masks_start has_zero until_zero string_ends string_good string_at index_good array_at value head_at whole_at places_at body_by seen_by source_of is_there readable value_by answered_from answered_by table fits front more after counted_in well_formed code_points
 boxes_hold = refl
 
 -- a refused opening hands back zeros

@@ -23,7 +23,7 @@ use Rattle.psv0_layout.specs.Answers.{field_of, info_of, resource_of, element_of
 use Rattle.psv0_layout.specs.Field.{vertex_count, patch_byte, topology, thread_count}
 use Rattle.psv0_layout.specs.Layout.{Seen, no_body, rows, resource_width}
 use Rattle.psv0_layout.specs.Parts.{resource_shown, element_shown}
-use Rattle.psv0_layout.specs.Shown.{Value, unset, number, view, Question, stageUnion, leastLanes, mostLanes, stageNumber, usesView, maxVertexCount, patchVectorCount, meshTopology, inputElements, outputElements, patchElements, inputVectorCount, outputVectorCount, threads, entry_name_offset_of, resourceField, elementField, needs, set_if, of_resource, element_fields, value}
+use Rattle.psv0_layout.specs.Shown.{Value, unset, number, view, Question, stage_union, least_lanes, most_lanes, stage_number, uses_view, max_vertex_count, patch_vector_count, mesh_topology, input_elements, output_elements, patch_elements, input_vector_count, output_vector_count, threads, entry_name_offset_of, resource_field, element_field, needs, set_if, of_resource, element_fields, value}
 use Rattle.psv0_layout.specs.declared.ElementAnswer.{ElementAnswer}
 use Rattle.psv0_layout.specs.declared.ElementRecord.{ElementRecord}
 use Rattle.psv0_layout.specs.declared.Field.TheVariants.{Unset}
@@ -33,7 +33,7 @@ use Rattle.psv0_layout.specs.declared.ResourceRecord.{ResourceRecord}
 use Rattle.psv0_layout.proofs.Positions.{part_byte, part_u16, part_u32, rows_length}
 use Rattle.places_layout.specs.Answers.{shown_by, info_by, resource_by, element_by}
 use Rattle.places_layout.specs.Parts.{staged, of_runtime}
-use Rattle.places_layout.specs.Read.{body_by, seen_by, Source, inResource, inElement, source_of, is_there, readable, value_by, Answer, given, refusal, answered_from, answered_by}
+use Rattle.places_layout.specs.Read.{body_by, seen_by, Source, in_resource, in_element, source_of, is_there, readable, value_by, Answer, given, refusal, answered_from, answered_by}
 use Rattle.places_layout.specs.declared.SectionPlaces.{SectionPlaces}
 use Rattle.places_layout.proofs.Any.{width_mono}
 use Rattle.places_layout.proofs.Standing.{too_early, not_there, outside, reads, resource_row, element_row}
@@ -91,28 +91,28 @@ module _ (p : SectionPlaces) (b : List ℕ) where
   info_fields =
       λ i.
       record {
-        minimum_wave_lanes = field_of (shown_field leastLanes refl refl (λ h. ap number (word 0 h 16 (omega arith))) i);
-        maximum_wave_lanes = field_of (shown_field mostLanes refl refl (λ h. ap number (word 0 h 20 (omega arith))) i);
-        stage = field_of (shown_field stageNumber refl refl (λ h. ap number (byte 1 h 24 (omega arith))) i);
-        uses_view_id = field_of (shown_field usesView refl refl (λ h. ap number (byte 1 h 25 (omega arith))) i);
-        max_vertex_count = field_of (shown_field maxVertexCount refl refl (λ h. ap number (pair 1 h (omega arith))) i);
-        patch_vectors = field_of (shown_field patchVectorCount refl refl (λ h. ap number (byte 1 h 26 (omega arith))) i);
-        mesh_topology = field_of (shown_field meshTopology refl refl (λ h. ap number (byte 1 h 27 (omega arith))) i);
-        input_elements = field_of (shown_field inputElements refl refl (λ h. ap number (byte 1 h 28 (omega arith))) i);
-        output_elements = field_of (shown_field outputElements refl refl (λ h. ap number (byte 1 h 29 (omega arith))) i);
-        patch_elements = field_of (shown_field patchElements refl refl (λ h. ap number (byte 1 h 30 (omega arith))) i);
-        input_vectors = field_of (shown_field inputVectorCount refl refl (λ h. ap number (byte 1 h 31 (omega arith))) i);
-        output_vectors_0 = field_of (shown_field (outputVectorCount 0) refl refl (λ h. ap number (byte 1 h 32 (omega arith))) i);
-        output_vectors_1 = field_of (shown_field (outputVectorCount 1) refl refl (λ h. ap number (byte 1 h 33 (omega arith))) i);
-        output_vectors_2 = field_of (shown_field (outputVectorCount 2) refl refl (λ h. ap number (byte 1 h 34 (omega arith))) i);
-        output_vectors_3 = field_of (shown_field (outputVectorCount 3) refl refl (λ h. ap number (byte 1 h 35 (omega arith))) i);
+        minimum_wave_lanes = field_of (shown_field least_lanes refl refl (λ h. ap number (word 0 h 16 (omega arith))) i);
+        maximum_wave_lanes = field_of (shown_field most_lanes refl refl (λ h. ap number (word 0 h 20 (omega arith))) i);
+        stage = field_of (shown_field stage_number refl refl (λ h. ap number (byte 1 h 24 (omega arith))) i);
+        uses_view_id = field_of (shown_field uses_view refl refl (λ h. ap number (byte 1 h 25 (omega arith))) i);
+        max_vertex_count = field_of (shown_field max_vertex_count refl refl (λ h. ap number (pair 1 h (omega arith))) i);
+        patch_vectors = field_of (shown_field patch_vector_count refl refl (λ h. ap number (byte 1 h 26 (omega arith))) i);
+        mesh_topology = field_of (shown_field mesh_topology refl refl (λ h. ap number (byte 1 h 27 (omega arith))) i);
+        input_elements = field_of (shown_field input_elements refl refl (λ h. ap number (byte 1 h 28 (omega arith))) i);
+        output_elements = field_of (shown_field output_elements refl refl (λ h. ap number (byte 1 h 29 (omega arith))) i);
+        patch_elements = field_of (shown_field patch_elements refl refl (λ h. ap number (byte 1 h 30 (omega arith))) i);
+        input_vectors = field_of (shown_field input_vector_count refl refl (λ h. ap number (byte 1 h 31 (omega arith))) i);
+        output_vectors_0 = field_of (shown_field (output_vector_count 0) refl refl (λ h. ap number (byte 1 h 32 (omega arith))) i);
+        output_vectors_1 = field_of (shown_field (output_vector_count 1) refl refl (λ h. ap number (byte 1 h 33 (omega arith))) i);
+        output_vectors_2 = field_of (shown_field (output_vector_count 2) refl refl (λ h. ap number (byte 1 h 34 (omega arith))) i);
+        output_vectors_3 = field_of (shown_field (output_vector_count 3) refl refl (λ h. ap number (byte 1 h 35 (omega arith))) i);
         threads_x = field_of (shown_field (threads 0) refl refl (λ h. ap number (word 2 h 36 (omega arith))) i);
         threads_y = field_of (shown_field (threads 1) refl refl (λ h. ap number (word 2 h 40 (omega arith))) i);
         threads_z = field_of (shown_field (threads 2) refl refl (λ h. ap number (word 2 h 44 (omega arith))) i);
         entry_name_offset = field_of (shown_field entry_name_offset_of refl refl (λ h. ap number (word 3 h 48 (omega arith))) i);
       }
 
-  info_verdict : (answered_by p b leastLanes).verdict ≡ check runtime_inside 29 0
+  info_verdict : (answered_by p b least_lanes).verdict ≡ check runtime_inside 29 0
   unfolding answered_by answered_from source_of is_there readable check
   info_verdict = rw (le-leb 0 p.edition (omega arith)) (go runtime_inside _)
     where
@@ -171,17 +171,17 @@ module _ (p : SectionPlaces) (b : List ℕ) (i : ℕ) where
   pub no_resource : p.resource_count ≤ i → refused_resource 26 0 ≡ resource_by p b i
   unfolding resource_by shown_by source_of is_there
   no_resource h =
-      let missing : (f : ℕ) → answered_by p b (resourceField i f) ≡ refusal 26 =
-      λ f. not_there p b (resourceField i f) (rw (le-ltb i p.resource_count h)) in
+      let missing : (f : ℕ) → answered_by p b (resource_field i f) ≡ refusal 26 =
+      λ f. not_there p b (resource_field i f) (rw (le-ltb i p.resource_count h)) in
       λ j. record { verdict = (sym (missing 0) j).verdict; resource = resource_of (λ f. field_of (sym (missing f) j).value) }
 
   module _ (l : i < p.resource_count) where
     pub resource_outside : leb (resource_place + resource_length) (length b) ≡ false → refused_resource 29 0 ≡ resource_by p b i
     unfolding resource_by source_of is_there readable
     resource_outside t =
-        let verdict : answered_by p b (resourceField i 0) ≡ refusal 29 =
-        outside p b (resourceField i 0) (omega arith) (rw (lt-ltb i p.resource_count l)) t in
-        λ j. record { verdict = (sym (verdict) j).verdict; resource = resource_of (λ f. field_of (hidden p b (resourceField i f) t j)) }
+        let verdict : answered_by p b (resource_field i 0) ≡ refusal 29 =
+        outside p b (resource_field i 0) (omega arith) (rw (lt-ltb i p.resource_count l)) t in
+        λ j. record { verdict = (sym (verdict) j).verdict; resource = resource_of (λ f. field_of (hidden p b (resource_field i f) t j)) }
 
     module _ (t : leb (resource_place + resource_length) (length b) ≡ true) where
       fits : resource_place + resource_length ≤ length b
@@ -192,7 +192,7 @@ module _ (p : SectionPlaces) (b : List ℕ) (i : ℕ) where
 
       module _ (f : ℕ) where
         abbrev e : ℕ
-        e = needs (resourceField i f)
+        e = needs (resource_field i f)
 
         abbrev we : ℕ
         we = resource_width e p.resource_size
@@ -220,7 +220,7 @@ module _ (p : SectionPlaces) (b : List ℕ) (i : ℕ) where
             rw (n, width_width e p.edition p.resource_size h) (take-take we resource_length (drop resource_place b) m) in
             of_row _ q h))
 
-        record_shown : shown_by p b (resourceField i f) ≡ set_if (leb e p.edition) field
+        record_shown : shown_by p b (resource_field i f) ≡ set_if (leb e p.edition) field
         unfolding shown_by source_of is_there readable value_by value
         record_shown = go (leb e p.edition) (leb-true e p.edition) (leb-false e p.edition)
           where
@@ -228,21 +228,21 @@ module _ (p : SectionPlaces) (b : List ℕ) (i : ℕ) where
             tested true x = refl
             tested false x = refl
 
-            go : (s : Bool) → (s ≡ true → e ≤ p.edition) → (s ≡ false → p.edition < e) → (answered_by p b (resourceField i f)).value ≡ set_if s field
+            go : (s : Bool) → (s ≡ true → e ≤ p.edition) → (s ≡ false → p.edition < e) → (answered_by p b (resource_field i f)).value ≡ set_if s field
             go true g k =
                 let h = g refl in
                 ap (λ (a : Answer). a.value)
-                (answered_as p b (resourceField i f) (ltb f 6 && leb (f * 4 + 4) we) true field h (rw (lt-ltb i p.resource_count l)) t
+                (answered_as p b (resource_field i f) (ltb f 6 && leb (f * 4 + 4) we) true field h (rw (lt-ltb i p.resource_count l)) t
                 (of_row _ (resource_row p b e i l) h))
                 ∙ tested (ltb f 6 && leb (f * 4 + 4) we) (number (u32_at row (f * 4)))
-            go false g k = ap (λ (a : Answer). a.value) (too_early p b (resourceField i f) (k refl))
+            go false g k = ap (λ (a : Answer). a.value) (too_early p b (resource_field i f) (k refl))
 
       pub resource_read : (x : ResourceRecord) → x ≡ resource_of (resource_shown p.edition resource_bytes)
           → ◌≡◌ {A = ResourceAnswer} (record { verdict = Accepted; resource = x }) (resource_by p b i)
       unfolding resource_by source_of is_there readable
       resource_read x h =
-          let verdict = reads p b (resourceField i 0) (omega arith) (rw (lt-ltb i p.resource_count l)) t in
-          let field : (f : ℕ) → resource_shown p.edition resource_bytes f ≡ field_of (shown_by p b (resourceField i f)) =
+          let verdict = reads p b (resource_field i 0) (omega arith) (rw (lt-ltb i p.resource_count l)) t in
+          let field : (f : ℕ) → resource_shown p.edition resource_bytes f ≡ field_of (shown_by p b (resource_field i f)) =
           λ f. bytes_shown f ∙ sym (ap field_of (record_shown f)) in
           (λ j. record { verdict = Accepted; resource = h j })
           ∙ (λ j. record { verdict = (sym (verdict) j).verdict; resource = resource_of (λ f. field f j) })
@@ -263,8 +263,8 @@ module _ (p : SectionPlaces) (b : List ℕ) (i : ℕ) where
   pub no_element_lem : (p.edition < 1) ⊎ (p.element_count ≤ i) → refused_element 26 0 ≡ element_by p b i
   unfolding element_by shown_by source_of is_there
   no_element_lem h =
-      let missing : (f : ℕ) → answered_by p b (elementField i f) ≡ refusal 26 =
-      λ f. no_element_answer (elementField i f) refl (λ e. rw (le-ltb i p.element_count e)) h in
+      let missing : (f : ℕ) → answered_by p b (element_field i f) ≡ refusal 26 =
+      λ f. no_element_answer (element_field i f) refl (λ e. rw (le-ltb i p.element_count e)) h in
       λ j. record { verdict = (sym (missing 0) j).verdict; element = element_of (λ f. field_of (sym (missing f) j).value) }
 
   module _ (one : 1 ≤ p.edition) (l : i < p.element_count) where
@@ -283,19 +283,19 @@ module _ (p : SectionPlaces) (b : List ℕ) (i : ℕ) where
     pub element_outside : leb (element_place + 16) (length b) ≡ false → refused_element 29 0 ≡ element_by p b i
     unfolding element_by source_of is_there readable
     element_outside t =
-        let verdict : answered_by p b (elementField i 0) ≡ refusal 29 = outside p b (elementField i 0) one (rw there) t in
-        λ j. record { verdict = (sym (verdict) j).verdict; element = element_of (λ f. field_of (hidden p b (elementField i f) t j)) }
+        let verdict : answered_by p b (element_field i 0) ≡ refusal 29 = outside p b (element_field i 0) one (rw there) t in
+        λ j. record { verdict = (sym (verdict) j).verdict; element = element_of (λ f. field_of (hidden p b (element_field i f) t j)) }
 
     pub element_read : (x : ElementRecord) → leb (element_place + 16) (length b) ≡ true → x ≡ element_of (element_shown element_bytes)
         → ◌≡◌ {A = ElementAnswer} (record { verdict = Accepted; element = x }) (element_by p b i)
     unfolding element_by shown_by element_shown source_of is_there readable value_by value
     element_read x t h =
         let tested : (u : Bool) (n : ℕ) → (choose u (choose true (given (set_if u (number n))) (refusal 29)) (refusal 26)).value ≡ set_if u (number n) = tested_field in
-        let verdict = reads p b (elementField i 0) one (rw there) t in
-        let field : (f : ℕ) → (answered_by p b (elementField i f)).value ≡ set_if (ltb f 13) (number (get_or (element_fields element_bytes) f 0)) =
+        let verdict = reads p b (element_field i 0) one (rw there) t in
+        let field : (f : ℕ) → (answered_by p b (element_field i f)).value ≡ set_if (ltb f 13) (number (get_or (element_fields element_bytes) f 0)) =
         λ f.
         ap (λ (a : Answer). a.value)
-        (answered_as p b (elementField i f) (ltb f 13) true _ one (rw there) t
+        (answered_as p b (element_field i f) (ltb f 13) true _ one (rw there) t
         (of_element_lem _ ∙ ap (λ r. set_if (ltb f 13) (number (get_or (element_fields r) f 0))) row_is))
         ∙ tested (ltb f 13) _ in
         (λ j. record { verdict = Accepted; element = h j })

@@ -12,7 +12,7 @@ use Rattle.psv0_layout.specs.Answers.{field_of, bytes_of, info_of, resource_of, 
 use Rattle.psv0_layout.specs.Handed.{Section, handed}
 use Rattle.psv0_layout.specs.Judged.{opened}
 use Rattle.psv0_layout.specs.Layout.{edition_read_of}
-use Rattle.psv0_layout.specs.Shown.{Value, number, view, Question, leastLanes, resourceField, elementField, value, shown_at, shown, queried}
+use Rattle.psv0_layout.specs.Shown.{Value, number, view, Question, least_lanes, resource_field, element_field, value, shown_at, shown, queried}
 use Rattle.psv0_layout.specs.declared.ElementAnswer.{ElementAnswer}
 use Rattle.psv0_layout.specs.declared.InfoAnswer.{InfoAnswer}
 use Rattle.psv0_layout.specs.declared.LengthsAnswer.{LengthsAnswer}
@@ -50,21 +50,21 @@ module _ {b d : List ℕ} {o : ℕ} (h : PartAt b d o) (k : ℕ) (j : opened k d
   unfolding shown_by
   shown_is = λ i q. (answers_fresh q i).value
 
-  lanes_set : queried Accepted (shown k d leastLanes) ≡ Accepted
+  lanes_set : queried Accepted (shown k d least_lanes) ≡ Accepted
   unfolding queried ◌then◌ check shown_at value
   lanes_set = rw (le-leb 0 (edition_read_of k d) (omega arith)) refl
 
   pub info_fresh : info_by p b ≡ info_answer_of Accepted (shown k d)
   unfolding info_by info_answer_of
-  info_fresh = let v = verdict_is leastLanes ∙ lanes_set in λ i. record { verdict = v i; info = info_of (shown_is i) }
+  info_fresh = let v = verdict_is least_lanes ∙ lanes_set in λ i. record { verdict = v i; info = info_of (shown_is i) }
 
   pub resource_fresh : (n : ℕ) → resource_by p b n ≡ resource_answer_of Accepted (shown k d) n
   unfolding resource_by resource_answer_of
-  resource_fresh n = λ i. record { verdict = verdict_is (resourceField n 0) i; resource = resource_of (λ f. field_of (shown_is i (resourceField n f))) }
+  resource_fresh n = λ i. record { verdict = verdict_is (resource_field n 0) i; resource = resource_of (λ f. field_of (shown_is i (resource_field n f))) }
 
   pub element_fresh : (n : ℕ) → element_by p b n ≡ element_answer_of Accepted (shown k d) n
   unfolding element_by element_answer_of
-  element_fresh n = λ i. record { verdict = verdict_is (elementField n 0) i; element = element_of (λ f. field_of (shown_is i (elementField n f))) }
+  element_fresh n = λ i. record { verdict = verdict_is (element_field n 0) i; element = element_of (λ f. field_of (shown_is i (element_field n f))) }
 
   pub lengths_fresh : lengths_by p b ≡ lengths_answer_of Accepted (shown k d)
   unfolding lengths_by lengths_answer_of

@@ -9,7 +9,7 @@ use lib.Dec.{leb}
 use lib.ListN.{length, take, drop}
 use borrow.Author.Tests.{le-leb, leb-true}
 use Rattle.wire.specs.Choice.{choose}
-use Rattle.psv0_layout.specs.Handed.{Section, runtimeRecord, resourceRecords, stringTable, indexTable, elementRecords, masks, from_one, handed}
+use Rattle.psv0_layout.specs.Handed.{Section, runtime_record, resource_records, string_table, index_table, element_records, masks, from_one, handed}
 use Rattle.psv0_layout.specs.Layout.{sections}
 use Rattle.psv0_layout.specs.Shown.{view}
 use Rattle.places_layout.specs.declared.SectionPlaces.{SectionPlaces}
@@ -31,11 +31,11 @@ later b er at n l f = go (leb 1 er) (leb-true 1 er)
 module _ {p : SectionPlaces} {b : List ℕ} {er : ℕ} (d : List ℕ) (h : Holds p b er (sections d)) where
   at_edition : (t : Section) → stretch_in b (start_by p er t) (length_by p er t) ≡ given (view (handed er d t))
   unfolding start_by length_by handed
-  at_edition runtimeRecord = whole b _ _ _ h.runtime h.runtime_fits
-  at_edition resourceRecords = whole b _ _ _ h.resources h.resources_fit
-  at_edition stringTable = later b er _ _ _ (λ l. ((h.body l).strings, (h.body l).strings_fit))
-  at_edition indexTable = later b er _ _ _ (λ l. ((h.body l).indices, (h.body l).indices_fit))
-  at_edition elementRecords = later b er _ _ _ (λ l. ((h.body l).elements, (h.body l).elements_fit))
+  at_edition runtime_record = whole b _ _ _ h.runtime h.runtime_fits
+  at_edition resource_records = whole b _ _ _ h.resources h.resources_fit
+  at_edition string_table = later b er _ _ _ (λ l. ((h.body l).strings, (h.body l).strings_fit))
+  at_edition index_table = later b er _ _ _ (λ l. ((h.body l).indices, (h.body l).indices_fit))
+  at_edition element_records = later b er _ _ _ (λ l. ((h.body l).elements, (h.body l).elements_fit))
   at_edition masks = later b er _ _ _ (λ l. ((h.body l).masks, (h.body l).masks_fit))
 
   pub handed_same : (t : Section) → handed_by p b t ≡ given (view (handed er d t))

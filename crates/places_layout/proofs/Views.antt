@@ -22,7 +22,7 @@ use Rattle.psv0_layout.specs.Answers.{field_of, bytes_of, lengths_of, points_in,
 use Rattle.psv0_layout.specs.Field.{sum, name_offset_of, index_reference_of, row_count}
 use Rattle.psv0_layout.specs.Parts.{accepted_span}
 use Rattle.psv0_layout.specs.Reference.{string_good, string_at, index_good, index_total, array_at}
-use Rattle.psv0_layout.specs.Shown.{number, view, Question, stageUnion, elementString, element_points, elementArray, mask, entryName, entryPoints, resourceCount, stringBytes, indexCount, elementCount, needs, set_if, value}
+use Rattle.psv0_layout.specs.Shown.{number, view, Question, stage_union, element_string, element_points, element_array, mask, entry_name, entry_points, resource_count, string_bytes, index_count, element_count, needs, set_if, value}
 use Rattle.psv0_layout.specs.declared.LengthsAnswer.{LengthsAnswer}
 use Rattle.psv0_layout.specs.declared.ListLengths.{ListLengths}
 use Rattle.psv0_layout.specs.declared.Points.{Points}
@@ -124,13 +124,13 @@ module _ (p : SectionPlaces) (b : List ℕ) where
     unfolding source_of is_there
     no_element_string h k =
         refused_as (ElementString i) (element_points i) refl 26 s
-        (no_element_answer p b i (elementString i) refl (λ e. le-ltb i p.element_count e) h)
+        (no_element_answer p b i (element_string i) refl (λ e. le-ltb i p.element_count e) h)
         (no_element_answer p b i (element_points i) refl (λ e. le-ltb i p.element_count e) h) k
 
     pub no_element_array : (p.edition < 1) ⊎ (p.element_count ≤ i) → s ≡ refused_span 26 0 → ViewBy p b (ElementArray i) s
     unfolding source_of is_there
     no_element_array h k =
-        view_as (ElementArray i) (refusal 26) Points.Unset s (no_element_answer p b i (elementArray i) refl (λ e. le-ltb i p.element_count e) h) refl
+        view_as (ElementArray i) (refusal 26) Points.Unset s (no_element_answer p b i (element_array i) refl (λ e. le-ltb i p.element_count e) h) refl
         (rw k (refused_shows b 26 0))
 
     module _ (one : 1 ≤ p.edition) (l : i < p.element_count) where
@@ -144,7 +144,7 @@ module _ (p : SectionPlaces) (b : List ℕ) where
       pub element_string_outside : element_inside ≡ false → s ≡ refused_span 29 0 → ViewBy p b (ElementString i) s
       unfolding source_of is_there readable
       element_string_outside t k =
-          refused_as (ElementString i) (element_points i) refl 29 s (outside p b (elementString i) one (there p b i one l) (rw t))
+          refused_as (ElementString i) (element_points i) refl 29 s (outside p b (element_string i) one (there p b i one l) (rw t))
           (outside p b (element_points i) one (there p b i one l) (rw t)) k
 
       pub element_string_read : element_inside ≡ true → StringShows b p.strings p.string_bytes (u32_at b (p.elements + i * p.element_size)) s
@@ -158,14 +158,14 @@ module _ (p : SectionPlaces) (b : List ℕ) where
           let test : (element_inside && leb (p.strings + p.string_bytes) (length b) && string_good table (name_offset_of (get_or (body_by p b).elements i [])))
           ≡ (leb (p.strings + p.string_bytes) (length b) && string_good table (u32_at b at)) = rw (t, name) in
           string_as (ElementString i) (element_points i) refl _ _ _ s
-          (answered_as p b (elementString i) true _ _ one (there p b i one l) test (of_element_lem p b i one l _ ∙ ap (λ o. view (string_at table o)) name))
+          (answered_as p b (element_string i) true _ _ one (there p b i one l) test (of_element_lem p b i one l _ ∙ ap (λ o. view (string_at table o)) name))
           (answered_as p b (element_points i) true _ _ one (there p b i one l) test (of_element_lem p b i one l _ ∙ ap (λ o. number (code_points (string_at table o))) name))
           h
 
       pub element_array_outside : element_inside ≡ false → s ≡ refused_span 29 0 → ViewBy p b (ElementArray i) s
       unfolding source_of is_there readable
       element_array_outside t k =
-          view_as (ElementArray i) (refusal 29) Points.Unset s (outside p b (elementArray i) one (there p b i one l) (rw t)) refl (rw k (refused_shows b 29 0))
+          view_as (ElementArray i) (refusal 29) Points.Unset s (outside p b (element_array i) one (there p b i one l) (rw t)) refl (rw k (refused_shows b 29 0))
 
       pub element_array_read : (c r : ℕ) → element_inside ≡ true → c ≡ u32_at b (p.elements + i * p.element_size + 4) → r ≡ get_or b (p.elements + i * p.element_size + 8) 0
           → ArrayShows b p.indices p.index_count c r s → ViewBy p b (ElementArray i) s
@@ -179,7 +179,7 @@ module _ (p : SectionPlaces) (b : List ℕ) where
           && index_good table (index_reference_of (get_or (body_by p b).elements i [])) (row_count (get_or (body_by p b).elements i [])))
           ≡ (leb (p.indices + p.index_count * 4) (length b) && index_good table c r) = rw (t, first, count) in
           view_as (ElementArray i) _ Points.Unset s
-          (answered_as p b (elementArray i) true _ (view (array_at table c r)) one (there p b i one l) test
+          (answered_as p b (element_array i) true _ (view (array_at table c r)) one (there p b i one l) test
           (of_element_lem p b i one l _ ∙ rw (first, count)))
           refl (go (leb (p.indices + p.index_count * 4) (length b) && index_good table c r) _ h)
         where
@@ -190,7 +190,7 @@ module _ (p : SectionPlaces) (b : List ℕ) where
 
   -- ---- the entry name, whose reference stands in the runtime record
   pub no_entry : (s : Span) → p.edition < 3 → s ≡ refused_span 26 0 → ViewBy p b EntryName s
-  no_entry s h k = refused_as EntryName entryPoints refl 26 s (too_early p b entryName h) (too_early p b entryPoints h) k
+  no_entry s h k = refused_as EntryName entry_points refl 26 s (too_early p b entry_name h) (too_early p b entry_points h) k
 
   module _ (s : Span) (three : 3 ≤ p.edition) where
     abbrev record_inside : Bool
@@ -200,7 +200,7 @@ module _ (p : SectionPlaces) (b : List ℕ) where
     unfolding source_of is_there readable
     entry_outside t k =
         let test : leb (p.runtime + size_of p.edition) (length b) ≡ false = rw (size_last p.edition three) t in
-        refused_as EntryName entryPoints refl 29 s (outside p b entryName three refl (rw test)) (outside p b entryPoints three refl (rw test)) k
+        refused_as EntryName entry_points refl 29 s (outside p b entry_name three refl (rw test)) (outside p b entry_points three refl (rw test)) k
 
     pub entry_read : record_inside ≡ true → StringShows b p.strings p.string_bytes (u32_at b (p.runtime + 48)) s → ViewBy p b EntryName s
     unfolding source_of is_there readable value_by value body_by seen_by
@@ -210,16 +210,16 @@ module _ (p : SectionPlaces) (b : List ℕ) where
         let inside : leb (p.runtime + size_of p.edition) (length b) ≡ true = rw (size_last p.edition three) t in
         let test : (leb (p.runtime + size_of p.edition) (length b) && leb (p.strings + p.string_bytes) (length b) && string_good table (u32_at (take 52 (drop p.runtime b)) 48))
         ≡ (leb (p.strings + p.string_bytes) (length b) && string_good table (u32_at b (p.runtime + 48))) = rw (inside, name) in
-        string_as EntryName entryPoints refl _ _ _ s
-        (answered_as p b entryName true _ _ three refl test (ap (λ o. view (string_at table o)) name))
-        (answered_as p b entryPoints true _ _ three refl test (ap (λ o. number (code_points (string_at table o))) name))
+        string_as EntryName entry_points refl _ _ _ s
+        (answered_as p b entry_name true _ _ three refl test (ap (λ o. view (string_at table o)) name))
+        (answered_as p b entry_points true _ _ three refl test (ap (λ o. number (code_points (string_at table o))) name))
         h
 
   -- ---- the stage union
   module _ (s : Span) where
     pub union_outside : leb (p.runtime + size_of p.edition) (length b) ≡ false → s ≡ refused_span 29 0 → ViewBy p b StageUnion s
     unfolding source_of is_there readable
-    union_outside t k = view_as StageUnion (refusal 29) Points.Unset s (outside p b stageUnion (omega arith) refl t) refl (rw k (refused_shows b 29 0))
+    union_outside t k = view_as StageUnion (refusal 29) Points.Unset s (outside p b stage_union (omega arith) refl t) refl (rw k (refused_shows b 29 0))
 
     pub union_read : leb (p.runtime + size_of p.edition) (length b) ≡ true → p.runtime + 16 ≤ length b → s ≡ accepted_span p.runtime 16 Points.Unset
         → ViewBy p b StageUnion s
@@ -228,7 +228,7 @@ module _ (p : SectionPlaces) (b : List ℕ) where
         let front : view (take 16 (take 24 (drop p.runtime b))) ≡ view (take 16 (drop p.runtime b)) =
         ap view (take-take 16 24 (drop p.runtime b) (omega arith)) in
         view_as StageUnion (given (view (take 16 (drop p.runtime b)))) Points.Unset s
-        (answered_as p b stageUnion true true _ (omega arith) refl t front) refl
+        (answered_as p b stage_union true true _ (omega arith) refl t front) refl
         (rw k (whole_shows b (take 16 (drop p.runtime b)) p.runtime 16 refl h))
 
   -- ---- masks
@@ -274,9 +274,9 @@ module _ (p : SectionPlaces) (b : List ℕ) where
         verdict = Accepted;
         lengths =
             record {
-              resources = field_of (length_shown resourceCount _ refl j);
-              strings = field_of (length_shown stringBytes _ refl j);
-              indices = field_of (length_shown indexCount _ refl j);
-              elements = field_of (length_shown elementCount _ refl j);
+              resources = field_of (length_shown resource_count _ refl j);
+              strings = field_of (length_shown string_bytes _ refl j);
+              indices = field_of (length_shown index_count _ refl j);
+              elements = field_of (length_shown element_count _ refl j);
             };
       })

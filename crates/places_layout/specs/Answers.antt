@@ -2,7 +2,7 @@
 use Rattle.std.specs.Prelude.{List, ℕ}
 use Rattle.wire.specs.declared.Verdict.TheVariants.{Accepted}
 use Rattle.psv0_layout.specs.Answers.{field_of, info_of, resource_of, element_of, lengths_of, question_of, points_of, section_of, bytes_of, SpanShows}
-use Rattle.psv0_layout.specs.Shown.{Value, Question, leastLanes, resourceField, elementField}
+use Rattle.psv0_layout.specs.Shown.{Value, Question, least_lanes, resource_field, element_field}
 use Rattle.psv0_layout.specs.declared.ElementAnswer.{ElementAnswer}
 use Rattle.psv0_layout.specs.declared.InfoAnswer.{InfoAnswer}
 use Rattle.psv0_layout.specs.declared.LengthsAnswer.{LengthsAnswer}
@@ -22,14 +22,14 @@ module _ (p : SectionPlaces) (b : List ℕ) where
 
   -- a runtime record has lane counts whatever its edition and stage: their verdict is that of the record
   unfoldable pub info_by : InfoAnswer
-  info_by = record { verdict = (answered_by p b leastLanes).verdict; info = info_of shown_by }
+  info_by = record { verdict = (answered_by p b least_lanes).verdict; info = info_of shown_by }
 
   -- a record has its first field
   unfoldable pub resource_by : ℕ → ResourceAnswer
-  resource_by i = record { verdict = (answered_by p b (resourceField i 0)).verdict; resource = resource_of (λ f. field_of (shown_by (resourceField i f))) }
+  resource_by i = record { verdict = (answered_by p b (resource_field i 0)).verdict; resource = resource_of (λ f. field_of (shown_by (resource_field i f))) }
 
   unfoldable pub element_by : ℕ → ElementAnswer
-  element_by i = record { verdict = (answered_by p b (elementField i 0)).verdict; element = element_of (λ f. field_of (shown_by (elementField i f))) }
+  element_by i = record { verdict = (answered_by p b (element_field i 0)).verdict; element = element_of (λ f. field_of (shown_by (element_field i f))) }
 
   -- lengths go by the record: each is set or unset, and nothing is refused
   unfoldable pub lengths_by : LengthsAnswer

@@ -3,7 +3,7 @@ use Rattle.std.specs.Prelude.{List, ℕ, ◌+◌, ◌*◌, leb, length, take, dr
 use Rattle.constants.specs.Edition.{size_of}
 use Rattle.wire.specs.Choice.{choose}
 use Rattle.psv0_layout.specs.Field.{sum}
-use Rattle.psv0_layout.specs.Handed.{Section, runtimeRecord, resourceRecords, stringTable, indexTable, elementRecords, masks}
+use Rattle.psv0_layout.specs.Handed.{Section, runtime_record, resource_records, string_table, index_table, element_records, masks}
 use Rattle.psv0_layout.specs.Shown.{view}
 use Rattle.places_layout.specs.Read.{Answer, given, refusal}
 use Rattle.places_layout.specs.declared.SectionPlaces.{SectionPlaces}
@@ -14,19 +14,19 @@ later_by e n = choose (leb 1 e) n 0
 
 -- where a section's bytes start, and how many there are
 unfoldable pub start_by : SectionPlaces → ℕ → Section → ℕ
-start_by p e runtimeRecord = p.runtime
-start_by p e resourceRecords = p.resources
-start_by p e stringTable = later_by e p.strings
-start_by p e indexTable = later_by e p.indices
-start_by p e elementRecords = later_by e p.elements
+start_by p e runtime_record = p.runtime
+start_by p e resource_records = p.resources
+start_by p e string_table = later_by e p.strings
+start_by p e index_table = later_by e p.indices
+start_by p e element_records = later_by e p.elements
 start_by p e masks = later_by e p.masks
 
 unfoldable pub length_by : SectionPlaces → ℕ → Section → ℕ
-length_by p e runtimeRecord = size_of e
-length_by p e resourceRecords = p.resource_count * p.resource_size
-length_by p e stringTable = later_by e p.string_bytes
-length_by p e indexTable = later_by e (p.index_count * 4)
-length_by p e elementRecords = later_by e (p.element_count * p.element_size)
+length_by p e runtime_record = size_of e
+length_by p e resource_records = p.resource_count * p.resource_size
+length_by p e string_table = later_by e p.string_bytes
+length_by p e index_table = later_by e (p.index_count * 4)
+length_by p e element_records = later_by e (p.element_count * p.element_size)
 length_by p e masks = later_by e (sum p.mask_words * 4)
 
 -- the n bytes at a place where they lie inside, else 29

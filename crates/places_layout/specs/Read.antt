@@ -10,7 +10,7 @@ use Rattle.wire.specs.declared.Verdict.TheVariants.{Accepted, Refused}
 use Rattle.psv0_layout.specs.Field.{vertex_count, vertex_stage, patch_byte, patch_stage, topology, mesh_stage, thread_count, thread_stage, sum, name_offset_of, index_reference_of, row_count}
 use Rattle.psv0_layout.specs.Layout.{rows, Body, Seen, no_body, resource_width}
 use Rattle.psv0_layout.specs.Reference.{string_good, index_good}
-use Rattle.psv0_layout.specs.Shown.{Value, unset, number, view, Question, stageUnion, leastLanes, mostLanes, stageNumber, usesView, maxVertexCount, patchVectorCount, meshTopology, inputElements, outputElements, patchElements, inputVectorCount, outputVectorCount, threads, entry_name_offset_of, resourceField, elementField, elementString, element_points, elementArray, mask, entryName, entryPoints, resourceCount, stringBytes, indexCount, elementCount, needs, value}
+use Rattle.psv0_layout.specs.Shown.{Value, unset, number, view, Question, stage_union, least_lanes, most_lanes, stage_number, uses_view, max_vertex_count, patch_vector_count, mesh_topology, input_elements, output_elements, patch_elements, input_vector_count, output_vector_count, threads, entry_name_offset_of, resource_field, element_field, element_string, element_points, element_array, mask, entry_name, entry_points, resource_count, string_bytes, index_count, element_count, needs, value}
 use Rattle.places_layout.specs.declared.SectionPlaces.{SectionPlaces}
 
 -- ---- what stands at the recorded places; past the end there are no bytes
@@ -38,52 +38,52 @@ pub data Source : Type 0 where
   -- a number of the runtime record, which the recorded stage has or has not
   of_stage : Bool → (List ℕ → ℕ) → Source
   -- field f of resource record i, field f of element record i
-  inResource inElement : ℕ → ℕ → Source
+  in_resource in_element : ℕ → ℕ → Source
   -- the string and the index array of element i, mask m
-  aString anArray aMask : ℕ → Source
+  a_string an_array a_mask : ℕ → Source
   the_name : Source
   -- a list's length
   a_length : ℕ → Source
 
 unfoldable pub source_of : SectionPlaces → Question → Source
-source_of p stageUnion = in_runtime true
-source_of p leastLanes = in_runtime true
-source_of p mostLanes = in_runtime true
-source_of p stageNumber = in_runtime true
-source_of p usesView = in_runtime true
-source_of p maxVertexCount = of_stage (vertex_stage p.stage) vertex_count
-source_of p patchVectorCount = of_stage (patch_stage p.stage) patch_byte
-source_of p meshTopology = of_stage (mesh_stage p.stage) topology
-source_of p inputElements = in_runtime true
-source_of p outputElements = in_runtime true
-source_of p patchElements = in_runtime true
-source_of p inputVectorCount = in_runtime true
-source_of p (outputVectorCount i) = in_runtime (ltb i 4)
+source_of p stage_union = in_runtime true
+source_of p least_lanes = in_runtime true
+source_of p most_lanes = in_runtime true
+source_of p stage_number = in_runtime true
+source_of p uses_view = in_runtime true
+source_of p max_vertex_count = of_stage (vertex_stage p.stage) vertex_count
+source_of p patch_vector_count = of_stage (patch_stage p.stage) patch_byte
+source_of p mesh_topology = of_stage (mesh_stage p.stage) topology
+source_of p input_elements = in_runtime true
+source_of p output_elements = in_runtime true
+source_of p patch_elements = in_runtime true
+source_of p input_vector_count = in_runtime true
+source_of p (output_vector_count i) = in_runtime (ltb i 4)
 source_of p (threads i) = of_stage (ltb i 3 && thread_stage p.stage) (thread_count i)
 source_of p entry_name_offset_of = in_runtime true
-source_of p (resourceField i f) = inResource i f
-source_of p (elementField i f) = inElement i f
-source_of p (elementString i) = aString i
-source_of p (element_points i) = aString i
-source_of p (elementArray i) = anArray i
-source_of p (mask m) = aMask m
-source_of p entryName = the_name
-source_of p entryPoints = the_name
-source_of p resourceCount = a_length p.resource_count
-source_of p stringBytes = a_length p.string_bytes
-source_of p indexCount = a_length p.index_count
-source_of p elementCount = a_length p.element_count
+source_of p (resource_field i f) = in_resource i f
+source_of p (element_field i f) = in_element i f
+source_of p (element_string i) = a_string i
+source_of p (element_points i) = a_string i
+source_of p (element_array i) = an_array i
+source_of p (mask m) = a_mask m
+source_of p entry_name = the_name
+source_of p entry_points = the_name
+source_of p resource_count = a_length p.resource_count
+source_of p string_bytes = a_length p.string_bytes
+source_of p index_count = a_length p.index_count
+source_of p element_count = a_length p.element_count
 
 module _ (p : SectionPlaces) where
   -- "26 .. by the record first": it is there
   unfoldable pub is_there : Source → Bool
   is_there (in_runtime t) = t
   is_there (of_stage t f) = t
-  is_there (inResource i f) = ltb i p.resource_count && (ltb f 6 && leb (f * 4 + 4) (resource_width (choose (ltb f 4) 0 2) p.resource_size))
-  is_there (inElement i f) = ltb i p.element_count && ltb f 13
-  is_there (aString i) = ltb i p.element_count
-  is_there (anArray i) = ltb i p.element_count
-  is_there (aMask m) = ltb m 11
+  is_there (in_resource i f) = ltb i p.resource_count && (ltb f 6 && leb (f * 4 + 4) (resource_width (choose (ltb f 4) 0 2) p.resource_size))
+  is_there (in_element i f) = ltb i p.element_count && ltb f 13
+  is_there (a_string i) = ltb i p.element_count
+  is_there (an_array i) = ltb i p.element_count
+  is_there (a_mask m) = ltb m 11
   is_there the_name = true
   is_there (a_length n) = true
 
@@ -125,11 +125,11 @@ module _ (p : SectionPlaces) where
     unfoldable pub readable : Source → Bool
     readable (in_runtime t) = runtime_inside
     readable (of_stage t f) = runtime_inside
-    readable (inResource i f) = inside (p.resources + i * p.resource_size) (resource_width p.edition p.resource_size)
-    readable (inElement i f) = element_inside i
-    readable (aString i) = element_inside i && strings_inside && string_good (body_by p b).strings (name_offset_of (element_by i))
-    readable (anArray i) = element_inside i && indices_inside && index_good (body_by p b).indices (index_reference_of (element_by i)) (row_count (element_by i))
-    readable (aMask m) = inside (mask_place m) (mask_length m)
+    readable (in_resource i f) = inside (p.resources + i * p.resource_size) (resource_width p.edition p.resource_size)
+    readable (in_element i f) = element_inside i
+    readable (a_string i) = element_inside i && strings_inside && string_good (body_by p b).strings (name_offset_of (element_by i))
+    readable (an_array i) = element_inside i && indices_inside && index_good (body_by p b).indices (index_reference_of (element_by i)) (row_count (element_by i))
+    readable (a_mask m) = inside (mask_place m) (mask_length m)
     readable the_name = runtime_inside && strings_inside && string_good (body_by p b).strings entry_by
     readable (a_length n) = true
 
@@ -138,11 +138,11 @@ module _ (p : SectionPlaces) where
     unfoldable pub value_by : Source → Seen → Value → Value
     value_by (in_runtime t) v x = x
     value_by (of_stage t f) v x = number (f v.runtime)
-    value_by (inResource i f) v x = x
-    value_by (inElement i f) v x = x
-    value_by (aString i) v x = x
-    value_by (anArray i) v x = x
-    value_by (aMask m) v x = view (take (mask_length m) (drop (mask_place m) b))
+    value_by (in_resource i f) v x = x
+    value_by (in_element i f) v x = x
+    value_by (a_string i) v x = x
+    value_by (an_array i) v x = x
+    value_by (a_mask m) v x = view (take (mask_length m) (drop (mask_place m) b))
     value_by the_name v x = x
     value_by (a_length n) v x = number n
 

@@ -12,7 +12,7 @@ use Rattle.wire.specs.declared.Verdict.{Verdict}
 use Rattle.wire.specs.declared.Verdict.TheVariants.{Accepted, Refused}
 use Rattle.psv0_layout.specs.Answers.{refused_info, refused_resource, refused_element, field_of, element_of, info_answer_of, resource_answer_of, element_answer_of}
 use Rattle.psv0_layout.specs.Layout.{sections, seen}
-use Rattle.psv0_layout.specs.Shown.{Value, unset, number, view, Question, resourceField, elementField, set_if, element_fields, value, shown_at, beside, queried}
+use Rattle.psv0_layout.specs.Shown.{Value, unset, number, view, Question, resource_field, element_field, set_if, element_fields, value, shown_at, beside, queried}
 use Rattle.psv0_layout.specs.declared.ElementAnswer.{ElementAnswer}
 use Rattle.psv0_layout.specs.declared.InfoAnswer.{InfoAnswer}
 use Rattle.psv0_layout.specs.declared.ResourceAnswer.{ResourceAnswer}
@@ -36,7 +36,7 @@ module _ (o : Verdict) (f : Question → Value) {n p : ℕ} where
       → (n ≡ 26 → ⊥) → refused_resource n p ≡ resource_answer_of o (λ q. beside o (f q)) i
   unfolding resource_answer_of queried ◌then◌
   resource_hidden i h e k =
-      ap (λ v. resource_answer_of v (λ q. beside v (f q)) i) (opening_refuses o (beside o (f (resourceField i 0))) (sym e ∙ ap (λ x. x.verdict) h) k)
+      ap (λ v. resource_answer_of v (λ q. beside v (f q)) i) (opening_refuses o (beside o (f (resource_field i 0))) (sym e ∙ ap (λ x. x.verdict) h) k)
 
 -- ---- an element that a query refuses to show: nothing of it is shown, whether the opening refuses or there is no such element
 -- values under the two tests of an element: where a query for the first refuses, none is set
@@ -47,8 +47,8 @@ under_tests false t x g e f = refl
 under_tests true false x g e f = refl
 under_tests true true x g e f = absurd (let h = rw (← g) at e in let z : ◌≡◌ {A = ℕ} 0 1 = cc in omega arith)
 
-element_unset : (o : Verdict) (er : ℕ) (d : List ℕ) (i : ℕ) {n p : ℕ} → Refused n p ≡ queried o (beside o (shown_at er d (elementField i 0)))
-    → (f : ℕ) → unset ≡ beside o (shown_at er d (elementField i f))
+element_unset : (o : Verdict) (er : ℕ) (d : List ℕ) (i : ℕ) {n p : ℕ} → Refused n p ≡ queried o (beside o (shown_at er d (element_field i 0)))
+    → (f : ℕ) → unset ≡ beside o (shown_at er d (element_field i f))
 unfolding shown_at value
 element_unset Accepted er d i v f =
     let b = (seen 1 (sections d)).body in

@@ -10,11 +10,11 @@ use borrow.Author.Tests.{le-leb, lt-ltb}
 use Rattle.wire.specs.Number.{u32_at}
 use Rattle.wire.specs.declared.Verdict.TheVariants.{Accepted}
 use Rattle.psv0_layout.specs.Field.{element_total}
-use Rattle.psv0_layout.specs.Handed.{stringTable, elementRecords, handed}
+use Rattle.psv0_layout.specs.Handed.{string_table, element_records, handed}
 use Rattle.psv0_layout.specs.Judged.{opened}
 use Rattle.psv0_layout.specs.Layout.{Records, rows, guide_of, sections, body_of, seen, edition_read_of}
 use Rattle.psv0_layout.specs.Reference.{string_at}
-use Rattle.psv0_layout.specs.Shown.{view, elementString, value, shown_at}
+use Rattle.psv0_layout.specs.Shown.{view, element_string, value, shown_at}
 use Rattle.psv0_layout.proofs.Layouts.{WholeRecords, none, some, WholeBody}
 use Rattle.psv0_layout.proofs.Opened.{length_most, body_accepted}
 use Rattle.psv0_layout.proofs.Positions.{part_u32, bytes_at, rows_length, rows_at, elements_at}
@@ -41,9 +41,9 @@ module _ (k : ℕ) (d : List ℕ) (o : opened k d ≡ Accepted) (h : 1 ≤ editi
   total_short = rw (← count_is) (count_small whole.elements (rw (elements_at d, bytes_at) (simp (length-take, length-drop) (omega (arith, length_most k d o)))))
 
   pub handed_string : (i : ℕ) → i < element_total (guide_of d)
-      → shown_at (edition_read_of k d) d (elementString i)
-      ≡ view (string_at (handed (edition_read_of k d) d stringTable)
-      (u32_at (handed (edition_read_of k d) d elementRecords) (i * (length (handed (edition_read_of k d) d elementRecords) / element_total (guide_of d)))))
+      → shown_at (edition_read_of k d) d (element_string i)
+      ≡ view (string_at (handed (edition_read_of k d) d string_table)
+      (u32_at (handed (edition_read_of k d) d element_records) (i * (length (handed (edition_read_of k d) d element_records) / element_total (guide_of d)))))
   unfolding shown_at value seen body_of handed
   handed_string i l =
       let t = le-leb 1 (edition_read_of k d) h in

@@ -13,7 +13,7 @@ use Rattle.psv0_layout.specs.Field.{element_total, name_offset_of}
 use Rattle.psv0_layout.specs.Judged.{opened}
 use Rattle.psv0_layout.specs.Layout.{guide_of, sections, seen, body_of, edition_read_of}
 use Rattle.psv0_layout.specs.Reference.{string_at}
-use Rattle.psv0_layout.specs.Shown.{Value, number, view, elementString, element_points, entryName, entryPoints, value, shown_at}
+use Rattle.psv0_layout.specs.Shown.{Value, number, view, element_string, element_points, entry_name, entry_points, value, shown_at}
 use Rattle.psv0_layout.proofs.Opened.{element_good, entry_good}
 use Rattle.psv0_layout.proofs.Positions.{elements_length}
 use Rattle.psv0_layout.proofs.References.{good_parts}
@@ -27,7 +27,7 @@ pub record Told (string points : Value) : Type 0 where
 
 module _ (k : ℕ) (d : List ℕ) (o : opened k d ≡ Accepted) where
   pub element_told : 1 ≤ edition_read_of k d → (i : ℕ) → i < element_total (guide_of d)
-      → Told (shown_at (edition_read_of k d) d (elementString i)) (shown_at (edition_read_of k d) d (element_points i))
+      → Told (shown_at (edition_read_of k d) d (element_string i)) (shown_at (edition_read_of k d) d (element_points i))
   unfolding shown_at value
   element_told h i l =
       let t = le-leb 1 (edition_read_of k d) h in
@@ -39,7 +39,7 @@ module _ (k : ℕ) (d : List ℕ) (o : opened k d ≡ Accepted) where
         count = simp (t, z);
       }
 
-  pub entry_told : 3 ≤ edition_read_of k d → Told (shown_at (edition_read_of k d) d entryName) (shown_at (edition_read_of k d) d entryPoints)
+  pub entry_told : 3 ≤ edition_read_of k d → Told (shown_at (edition_read_of k d) d entry_name) (shown_at (edition_read_of k d) d entry_points)
   unfolding shown_at value
   entry_told h =
       let t = le-leb 3 (edition_read_of k d) h in

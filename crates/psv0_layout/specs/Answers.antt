@@ -3,7 +3,7 @@ use Rattle.std.specs.Prelude.{◌≡◌, List, [], ℕ, ◌+◌, ◌≤◌, leng
 use Rattle.wire.specs.declared.Verdict.{Verdict}
 use Rattle.wire.specs.declared.Verdict.TheVariants.{Accepted, Refused}
 use Rattle.psv0_layout.specs.Handed as handed
-use Rattle.psv0_layout.specs.Shown.{Value, unset, number, view, Question, stageUnion, leastLanes, mostLanes, stageNumber, usesView, maxVertexCount, patchVectorCount, meshTopology, inputElements, outputElements, patchElements, inputVectorCount, outputVectorCount, threads, entry_name_offset_of, resourceField, elementField, elementString, element_points, elementArray, mask, entryName, entryPoints, resourceCount, stringBytes, indexCount, elementCount, queried}
+use Rattle.psv0_layout.specs.Shown.{Value, unset, number, view, Question, stage_union, least_lanes, most_lanes, stage_number, uses_view, max_vertex_count, patch_vector_count, mesh_topology, input_elements, output_elements, patch_elements, input_vector_count, output_vector_count, threads, entry_name_offset_of, resource_field, element_field, element_string, element_points, element_array, mask, entry_name, entry_points, resource_count, string_bytes, index_count, element_count, queried}
 use Rattle.psv0_layout.specs.declared.ElementAnswer.{ElementAnswer}
 use Rattle.psv0_layout.specs.declared.ElementRecord.{ElementRecord}
 use Rattle.psv0_layout.specs.declared.Field.{Field}
@@ -52,21 +52,21 @@ opening_of o f e = record { verdict = o; file_edition = number_beside o f; editi
 unfoldable pub info_of : (Question → Value) → RuntimeInfo
 info_of a =
     record {
-      minimum_wave_lanes = field_of (a leastLanes);
-      maximum_wave_lanes = field_of (a mostLanes);
-      stage = field_of (a stageNumber);
-      uses_view_id = field_of (a usesView);
-      max_vertex_count = field_of (a maxVertexCount);
-      patch_vectors = field_of (a patchVectorCount);
-      mesh_topology = field_of (a meshTopology);
-      input_elements = field_of (a inputElements);
-      output_elements = field_of (a outputElements);
-      patch_elements = field_of (a patchElements);
-      input_vectors = field_of (a inputVectorCount);
-      output_vectors_0 = field_of (a (outputVectorCount 0));
-      output_vectors_1 = field_of (a (outputVectorCount 1));
-      output_vectors_2 = field_of (a (outputVectorCount 2));
-      output_vectors_3 = field_of (a (outputVectorCount 3));
+      minimum_wave_lanes = field_of (a least_lanes);
+      maximum_wave_lanes = field_of (a most_lanes);
+      stage = field_of (a stage_number);
+      uses_view_id = field_of (a uses_view);
+      max_vertex_count = field_of (a max_vertex_count);
+      patch_vectors = field_of (a patch_vector_count);
+      mesh_topology = field_of (a mesh_topology);
+      input_elements = field_of (a input_elements);
+      output_elements = field_of (a output_elements);
+      patch_elements = field_of (a patch_elements);
+      input_vectors = field_of (a input_vector_count);
+      output_vectors_0 = field_of (a (output_vector_count 0));
+      output_vectors_1 = field_of (a (output_vector_count 1));
+      output_vectors_2 = field_of (a (output_vector_count 2));
+      output_vectors_3 = field_of (a (output_vector_count 3));
       threads_x = field_of (a (threads 0));
       threads_y = field_of (a (threads 1));
       threads_z = field_of (a (threads 2));
@@ -106,10 +106,10 @@ element_of f =
 unfoldable pub lengths_of : (Question → Value) → ListLengths
 lengths_of a =
     record {
-      resources = field_of (a resourceCount);
-      strings = field_of (a stringBytes);
-      indices = field_of (a indexCount);
-      elements = field_of (a elementCount);
+      resources = field_of (a resource_count);
+      strings = field_of (a string_bytes);
+      indices = field_of (a index_count);
+      elements = field_of (a element_count);
     }
 
 -- o is what opening gives, a what is shown of each question (unset beside a refusal)
@@ -120,11 +120,11 @@ module _ (o : Verdict) (a : Question → Value) where
   -- 26 where there is no record i: its first field is unset
   unfoldable pub resource_answer_of : ℕ → ResourceAnswer
   resource_answer_of i =
-      record { verdict = queried o (a (resourceField i 0)); resource = resource_of (λ f. field_of (a (resourceField i f))) }
+      record { verdict = queried o (a (resource_field i 0)); resource = resource_of (λ f. field_of (a (resource_field i f))) }
 
   unfoldable pub element_answer_of : ℕ → ElementAnswer
   element_answer_of i =
-      record { verdict = queried o (a (elementField i 0)); element = element_of (λ f. field_of (a (elementField i f))) }
+      record { verdict = queried o (a (element_field i 0)); element = element_of (λ f. field_of (a (element_field i f))) }
 
   unfoldable pub lengths_answer_of : LengthsAnswer
   lengths_answer_of = record { verdict = o; lengths = lengths_of a }
@@ -147,10 +147,10 @@ refused_span n p = record { verdict = Refused n p; start = 0; len = 0; points = 
 
 -- the question that a view asks
 abbrev pub question_of : View → Question
-question_of StageUnion = stageUnion
-question_of (ElementString i) = elementString i
-question_of (ElementArray i) = elementArray i
-question_of EntryName = entryName
+question_of StageUnion = stage_union
+question_of (ElementString i) = element_string i
+question_of (ElementArray i) = element_array i
+question_of EntryName = entry_name
 question_of (Mask m) = mask m
 
 -- the code points beside a view, a being what is shown of each question: those of a string that is set, else unset
@@ -163,16 +163,16 @@ abbrev pub points_of : View → (Question → Value) → Points
 points_of StageUnion a = Points.Unset
 points_of (ElementString i) a = points_in (a (element_points i))
 points_of (ElementArray i) a = Points.Unset
-points_of EntryName a = points_in (a entryPoints)
+points_of EntryName a = points_in (a entry_points)
 points_of (Mask m) a = Points.Unset
 
 -- the section that an enum's case names
 abbrev pub section_of : Section → handed.Section
-section_of RuntimeRecord = handed.runtimeRecord
-section_of ResourceRecords = handed.resourceRecords
-section_of StringTable = handed.stringTable
-section_of IndexTable = handed.indexTable
-section_of ElementRecords = handed.elementRecords
+section_of RuntimeRecord = handed.runtime_record
+section_of ResourceRecords = handed.resource_records
+section_of StringTable = handed.string_table
+section_of IndexTable = handed.index_table
+section_of ElementRecords = handed.element_records
 section_of Masks = handed.masks
 
 -- a span shows the bytes l of the data d under the verdict v, with the code points c: it lies inside, and a refusal has start and

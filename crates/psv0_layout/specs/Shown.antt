@@ -21,46 +21,46 @@ pub data Value : Type 0 where
 -- and index array, the entry name, masks 0 to 10, and the lists' lengths"; document 02, Ask 7: of a string "also .. how many code points there
 -- are"
 pub data Question : Type 0 where
-  stageUnion leastLanes mostLanes : Question
-  stageNumber usesView maxVertexCount patchVectorCount meshTopology : Question
-  inputElements outputElements patchElements inputVectorCount : Question
-  outputVectorCount threads : ℕ → Question
+  stage_union least_lanes most_lanes : Question
+  stage_number uses_view max_vertex_count patch_vector_count mesh_topology : Question
+  input_elements output_elements patch_elements input_vector_count : Question
+  output_vector_count threads : ℕ → Question
   entry_name_offset_of : Question
-  resourceField elementField : ℕ → ℕ → Question
-  elementString elementArray mask : ℕ → Question
+  resource_field element_field : ℕ → ℕ → Question
+  element_string element_array mask : ℕ → Question
   element_points : ℕ → Question
-  entryName entryPoints : Question
-  resourceCount stringBytes indexCount elementCount : Question
+  entry_name entry_points : Question
+  resource_count string_bytes index_count element_count : Question
 
 -- the edition from which on it is set
 abbrev pub needs : Question → ℕ
-needs stageUnion = 0
-needs leastLanes = 0
-needs mostLanes = 0
-needs stageNumber = 1
-needs usesView = 1
-needs maxVertexCount = 1
-needs patchVectorCount = 1
-needs meshTopology = 1
-needs inputElements = 1
-needs outputElements = 1
-needs patchElements = 1
-needs inputVectorCount = 1
-needs (outputVectorCount i) = 1
+needs stage_union = 0
+needs least_lanes = 0
+needs most_lanes = 0
+needs stage_number = 1
+needs uses_view = 1
+needs max_vertex_count = 1
+needs patch_vector_count = 1
+needs mesh_topology = 1
+needs input_elements = 1
+needs output_elements = 1
+needs patch_elements = 1
+needs input_vector_count = 1
+needs (output_vector_count i) = 1
 needs (threads i) = 2
 needs entry_name_offset_of = 3
-needs (resourceField i f) = choose (ltb f 4) 0 2
-needs (elementField i f) = 1
-needs (elementString i) = 1
+needs (resource_field i f) = choose (ltb f 4) 0 2
+needs (element_field i f) = 1
+needs (element_string i) = 1
 needs (element_points i) = 1
-needs (elementArray i) = 1
+needs (element_array i) = 1
 needs (mask m) = 1
-needs entryName = 3
-needs entryPoints = 3
-needs resourceCount = 0
-needs stringBytes = 1
-needs indexCount = 1
-needs elementCount = 1
+needs entry_name = 3
+needs entry_points = 3
+needs resource_count = 0
+needs string_bytes = 1
+needs index_count = 1
+needs element_count = 1
 
 -- a value where the test is true
 abbrev pub set_if : Bool → Value → Value
@@ -99,34 +99,34 @@ mask_at r masks m = take (get_or (mask_words_of r) m 0 * 4) (drop (sum (take m (
 
 -- the value of a question, of what a reading at the edition that it needs looks at
 unfoldable pub value : Question → Seen → Value
-value stageUnion v = view (take 16 v.runtime)
-value leastLanes v = number (u32_at v.runtime 16)
-value mostLanes v = number (u32_at v.runtime 20)
-value stageNumber v = number (stage v.runtime)
-value usesView v = number (uses_view_id_of v.runtime)
-value maxVertexCount v = set_if (vertex_stage (stage v.runtime)) (number (vertex_count v.runtime))
-value patchVectorCount v = set_if (patch_stage (stage v.runtime)) (number (patch_byte v.runtime))
-value meshTopology v = set_if (mesh_stage (stage v.runtime)) (number (topology v.runtime))
-value inputElements v = number (get_or v.runtime 28 0)
-value outputElements v = number (get_or v.runtime 29 0)
-value patchElements v = number (get_or v.runtime 30 0)
-value inputVectorCount v = number (input_vectors_of v.runtime)
-value (outputVectorCount i) v = set_if (ltb i 4) (number (output_vectors v.runtime i))
+value stage_union v = view (take 16 v.runtime)
+value least_lanes v = number (u32_at v.runtime 16)
+value most_lanes v = number (u32_at v.runtime 20)
+value stage_number v = number (stage v.runtime)
+value uses_view v = number (uses_view_id_of v.runtime)
+value max_vertex_count v = set_if (vertex_stage (stage v.runtime)) (number (vertex_count v.runtime))
+value patch_vector_count v = set_if (patch_stage (stage v.runtime)) (number (patch_byte v.runtime))
+value mesh_topology v = set_if (mesh_stage (stage v.runtime)) (number (topology v.runtime))
+value input_elements v = number (get_or v.runtime 28 0)
+value output_elements v = number (get_or v.runtime 29 0)
+value patch_elements v = number (get_or v.runtime 30 0)
+value input_vector_count v = number (input_vectors_of v.runtime)
+value (output_vector_count i) v = set_if (ltb i 4) (number (output_vectors v.runtime i))
 value (threads i) v = set_if (ltb i 3 && thread_stage (stage v.runtime)) (number (thread_count i v.runtime))
 value entry_name_offset_of v = number (u32_at v.runtime 48)
-value (resourceField i f) v = of_resource v.resources i f
-value (elementField i f) v = of_element v.body i (set_if (ltb f 13) (number (get_or (element_fields (get_or v.body.elements i [])) f 0)))
-value (elementString i) v = of_element v.body i (view (string_at v.body.strings (name_offset_of (get_or v.body.elements i []))))
+value (resource_field i f) v = of_resource v.resources i f
+value (element_field i f) v = of_element v.body i (set_if (ltb f 13) (number (get_or (element_fields (get_or v.body.elements i [])) f 0)))
+value (element_string i) v = of_element v.body i (view (string_at v.body.strings (name_offset_of (get_or v.body.elements i []))))
 value (element_points i) v = of_element v.body i (number (code_points (string_at v.body.strings (name_offset_of (get_or v.body.elements i [])))))
-value (elementArray i) v =
+value (element_array i) v =
     of_element v.body i (view (array_at v.body.indices (index_reference_of (get_or v.body.elements i [])) (row_count (get_or v.body.elements i []))))
 value (mask m) v = set_if (ltb m 11) (view (mask_at v.runtime v.body.masks m))
-value entryName v = view (string_at v.body.strings (u32_at v.runtime 48))
-value entryPoints v = number (code_points (string_at v.body.strings (u32_at v.runtime 48)))
-value resourceCount v = number (length v.resources)
-value stringBytes v = number (length v.body.strings)
-value indexCount v = number (index_total v.body.indices)
-value elementCount v = number (length v.body.elements)
+value entry_name v = view (string_at v.body.strings (u32_at v.runtime 48))
+value entry_points v = number (code_points (string_at v.body.strings (u32_at v.runtime 48)))
+value resource_count v = number (length v.resources)
+value string_bytes v = number (length v.body.strings)
+value index_count v = number (index_total v.body.indices)
+value element_count v = number (length v.body.elements)
 
 -- what a reading at edition read er shows of PSV0 data; "in 0 all of sections 3 to 6 is unset, list lengths too"
 unfoldable pub shown_at : ℕ → List ℕ → Question → Value

@@ -4,7 +4,7 @@ use Rattle.constants.specs.Edition.{size_of}
 use Rattle.wire.specs.Number.{u32_at}
 use Rattle.wire.specs.declared.Verdict.TheVariants.{Accepted}
 use Rattle.psv0_layout.specs.Field.{mask_bytes_of}
-use Rattle.psv0_layout.specs.Handed.{handed, runtimeRecord, resourceRecords, stringTable, indexTable, elementRecords, masks}
+use Rattle.psv0_layout.specs.Handed.{handed, runtime_record, resource_records, string_table, index_table, element_records, masks}
 use Rattle.psv0_layout.specs.Judged.{opened}
 use Rattle.psv0_layout.specs.Layout.{sections, guide_of, after2, after5}
 use Rattle.psv0_writer_layout.specs.Written.{Given, resource_size_of}
@@ -24,10 +24,10 @@ pub record PlainForm (e : ℕ) (d : List ℕ) : Type 0 where
 unfoldable pub handed_out : ℕ → List ℕ → Given
 handed_out e d =
     record {
-      runtime = handed e d runtimeRecord;
-      resources = handed e d resourceRecords;
-      strings = handed e d stringTable;
-      indices = handed e d indexTable;
-      elements = handed e d elementRecords;
+      runtime = handed e d runtime_record;
+      resources = handed e d resource_records;
+      strings = handed e d string_table;
+      indices = handed e d index_table;
+      elements = handed e d element_records;
       masks = handed e d masks;
     }

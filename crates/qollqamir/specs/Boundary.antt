@@ -46,7 +46,7 @@ use Rattle.places_layout.specs.declared.SectionPlaces.{SectionPlaces}
 use Rattle.psv0_layout.specs.Shown.{Value, queried}
 use Rattle.psv0_writer_layout.specs.declared.Written.{Written}
 use Rattle.container_layout.specs.Container.{container_judged}
-use Rattle.root_signature_layout.specs.Root.{number_of as typeNumber}
+use Rattle.root_signature_layout.specs.Root.{number_of as type_number}
 use Rattle.root_signature_layout.specs.declared.Item.{Item}
 use Rattle.root_signature_layout.specs.declared.Item.TheVariants.{Constants, Descriptor, Table as RangeTable, Sampler, Unset as NoItem}
 use Rattle.root_signature_layout.specs.declared.ItemAnswer.{ItemAnswer}
@@ -405,7 +405,7 @@ item_fields c t (Sampler a u v w b an co bo l g r s y) =
 item_fields c t NoItem = parameter_fields c t 0 0 0 0 0 0 (c_field Unset)
 
 unfoldable pub c_item : ItemAnswer → CItem
-c_item a = item_fields (c_verdict a.verdict) (c_field (typeNumber a.item)) a.item
+c_item a = item_fields (c_verdict a.verdict) (c_field (type_number a.item)) a.item
 
 unfoldable pub c_range : RangeAnswer → CRange
 c_range a =

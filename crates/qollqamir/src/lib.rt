@@ -26,7 +26,7 @@ ghost use Rattle.psv0_writer_layout.specs.Answer as writing;
 ghost use Rattle.replacing_layout.specs.Answer.{replacement_of, output_of};
 ghost use Rattle.root_signature_layout.specs.Root.{root_of, item_of, item_alone_of, range_answer_of, range_alone_of};
 ghost use Rattle.root_signature_report_layout.specs.Reported.{root_report_of, item_report_of, range_report_of};
-ghost use Rattle.settings_layout.specs.Given as settingsWriting;
+ghost use Rattle.settings_layout.specs.Given as settings_writing;
 ghost use Rattle.settings_layout.specs.Shown.{settings_of, row_answer_of, row_alone_of, setting_answer_of};
 ghost use Rattle.signature_layout.specs.Signature.{signature_of, element_of, alone_of, view_of as nameView};
 ghost use Rattle.wire.specs.Number.{u32_at};
@@ -1883,8 +1883,8 @@ pub extern "C" fn qollqamir_replace_psv0(
 // Writes a settings file from rows as numbers, three a row.
 #[unsafe(no_mangle)]
 pub extern "C" fn qollqamir_write_settings(rows: &[u32], out: &mut [u8]) -> CWritten
-    ensures value { result ≡ c_settings_written (settingsWriting.answer rows.now (length out.old)) }
-    ensures out_after { out.new ≡ settingsWriting.output rows.now out.old }
+    ensures value { result ≡ c_settings_written (settings_writing.answer rows.now (length out.old)) }
+    ensures out_after { out.new ≡ settings_writing.output rows.now out.old }
 {
     c_settings_written(settings_writer::write(rows, out))
 }

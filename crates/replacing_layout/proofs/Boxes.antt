@@ -9,7 +9,7 @@ use Rattle.wire.specs.Verdict.{◌then◌, check, when, from, each}
 use Rattle.wire.specs.declared.Verdict.TheVariants.{Accepted, Refused}
 use Rattle.part_table_layout.specs.Lookup.{find}
 use Rattle.part_table_layout.specs.Table.{count_of, offset_at, offset_bytes, name_at, size_at, data_at, end_at, earliest, part_judged, may_repeat, may_stand, name_judged, header_judged, parts_judged, table_judged}
-use Rattle.utf8_layout.specs.Sequence.{table, fits, front, more, after, counted as sequencesOf, well_formed}
+use Rattle.utf8_layout.specs.Sequence.{table, fits, front, more, after, counted as sequences_of, well_formed}
 use Rattle.psv0_layout.specs.Field.{mask_words_of, sum}
 use Rattle.psv0_layout.specs.Judged.{head_judged, fields_judged, body_fits, element_judged, elements_judged, entry_judged, judged_at, opened}
 use Rattle.psv0_layout.specs.Layout.{counted, after_counted, counted_fits, records, after_records, records_fit, rows, sections, body_of, seen}
@@ -120,5 +120,5 @@ said =
     ∷ []
 
 pub boxes_hold : given ≡ said
-unfolding u16_at u32_at le32 ◌then◌ check when from each find count_of offset_at offset_bytes name_at size_at data_at end_at earliest part_judged may_repeat may_stand name_judged header_judged parts_judged table_judged mask_words_of sum head_judged fields_judged body_fits element_judged elements_judged entry_judged judged_at opened counted after_counted counted_fits records after_records records_fit rows sections body_of seen has_zero until_zero table fits front more after sequencesOf well_formed string_ends string_good string_at next_records stride_at first_record resources_start strings_start indices_start elements_start masks_start head_at whole_at places_at psv_of before_psv container_judged container_places is_plain replaced_at replaced new_judged replacing_judged replacement_of output_of
+unfolding u16_at u32_at le32 ◌then◌ check when from each find count_of offset_at offset_bytes name_at size_at data_at end_at earliest part_judged may_repeat may_stand name_judged header_judged parts_judged table_judged mask_words_of sum head_judged fields_judged body_fits element_judged elements_judged entry_judged judged_at opened counted after_counted counted_fits records after_records records_fit rows sections body_of seen has_zero until_zero table fits front more after sequences_of well_formed string_ends string_good string_at next_records stride_at first_record resources_start strings_start indices_start elements_start masks_start head_at whole_at places_at psv_of before_psv container_judged container_places is_plain replaced_at replaced new_judged replacing_judged replacement_of output_of
 boxes_hold = refl

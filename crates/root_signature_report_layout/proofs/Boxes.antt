@@ -14,7 +14,7 @@ use Rattle.psv0_layout.specs.Layout.{counted, after_counted, counted_fits, recor
 use Rattle.psv0_layout.specs.declared.Field.TheVariants.{Set, Unset}
 use Rattle.container_layout.specs.Container.{psv_of, before_psv, container_judged}
 use Rattle.container_layout.specs.Report.{data_named, reported}
-use Rattle.root_signature_layout.specs.Root.{in11, range_size, parameter_at, type_at, visibility_at, data_at as data_of, data_size, ranges_of, range_at, header_judged as rootHeaderJudged, own_judged, type_judged, data_judged, ranges_judged, parameter_judged, item_judged, root_judged, parameter_of, item_at, range_of, header_of, item_there, range_there}
+use Rattle.root_signature_layout.specs.Root.{in11, range_size, parameter_at, type_at, visibility_at, data_at as data_of, data_size, ranges_of, range_at, header_judged as root_header_judged, own_judged, type_judged, data_judged, ranges_judged, parameter_judged, item_judged, root_judged, parameter_of, item_at, range_of, header_of, item_there, range_there}
 use Rattle.root_signature_layout.specs.declared.Item.TheVariants.{Table, Unset as NoItem}
 use Rattle.root_signature_layout.specs.declared.ItemAnswer.{ItemAnswer}
 use Rattle.root_signature_layout.specs.declared.RangeAnswer.{RangeAnswer}
@@ -76,5 +76,5 @@ said =
     ∷ []
 
 pub boxes_hold : given ≡ said
-unfolding u16_at u32_at ◌then◌ check when from each find count_of offset_at name_at size_at data_at end_at earliest part_judged may_repeat may_stand name_judged header_judged parts_judged table_judged head_judged fields_judged body_fits elements_judged entry_judged judged_at counted after_counted counted_fits records after_records records_fit sections body_of seen psv_of before_psv container_judged data_named reported in11 range_size parameter_at type_at visibility_at data_of data_size ranges_of range_at rootHeaderJudged own_judged type_judged data_judged ranges_judged parameter_judged item_judged root_judged parameter_of item_at range_of header_of item_there range_there root_reported root_report_of item_reported item_report_of range_report_of
+unfolding u16_at u32_at ◌then◌ check when from each find count_of offset_at name_at size_at data_at end_at earliest part_judged may_repeat may_stand name_judged header_judged parts_judged table_judged head_judged fields_judged body_fits elements_judged entry_judged judged_at counted after_counted counted_fits records after_records records_fit sections body_of seen psv_of before_psv container_judged data_named reported in11 range_size parameter_at type_at visibility_at data_of data_size ranges_of range_at root_header_judged own_judged type_judged data_judged ranges_judged parameter_judged item_judged root_judged parameter_of item_at range_of header_of item_there range_there root_reported root_report_of item_reported item_report_of range_report_of
 boxes_hold = refl

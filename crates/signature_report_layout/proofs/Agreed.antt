@@ -14,7 +14,7 @@ use Rattle.wire.specs.declared.Verdict.TheVariants.{Accepted, Refused}
 use Rattle.wire.proofs.Verdicts.{then_accepted, check_accepted}
 use Rattle.utf8_layout.specs.Sequence.{well_formed, code_points}
 use Rattle.psv0_layout.specs.Layout.{edition_read_of}
-use Rattle.psv0_layout.specs.Shown.{Value, Question, elementString, inputElements, outputElements, patchElements, needs, shown_at}
+use Rattle.psv0_layout.specs.Shown.{Value, Question, element_string, input_elements, output_elements, patch_elements, needs, shown_at}
 use Rattle.container_layout.specs.Container.{psv0, psv_of, container_judged, container_answered}
 use Rattle.container_layout.specs.Widened.{WiderContainer}
 use Rattle.container_layout.proofs.Demand3.{editions_agree, widening_kept}
@@ -49,7 +49,7 @@ module _ (i j : ℕ) (b : List ℕ) (oi : container_judged i b ≡ Accepted) (oj
 module _ (a a' : Question → Value) (same : (q : Question) → needs q ≡ 1 → a' q ≡ a q) where
   names_same : (s : SignaturePart) (n : ℕ) → psv_name s a' n ≡ psv_name s a n
   unfolding psv_name
-  names_same s n = rw (same inputElements refl, same outputElements refl, same patchElements refl, same (elementString _) refl)
+  names_same s n = rw (same input_elements refl, same output_elements refl, same patch_elements refl, same (element_string _) refl)
 
 -- two second reports under one verdict are the same where the data are the same and, where they accept, the names
 pub difference_if_lem : (v : Verdict) {d d' : List ℕ} {f f' : ℕ → Value} → d' ≡ d → (v ≡ Accepted → (n : ℕ) → f' n ≡ f n)

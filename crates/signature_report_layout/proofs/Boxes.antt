@@ -8,7 +8,7 @@ use Rattle.wire.specs.Number.{u16_at, u32_at}
 use Rattle.wire.specs.Stretch.{same_bytes}
 use Rattle.wire.specs.Verdict.{◌then◌, check, when, from, each}
 use Rattle.wire.specs.declared.Verdict.TheVariants.{Accepted, Refused}
-use Rattle.utf8_layout.specs.Sequence.{table, fits, front, more, after, counted as countedIn, well_formed, code_points}
+use Rattle.utf8_layout.specs.Sequence.{table, fits, front, more, after, counted as counted_in, well_formed, code_points}
 use Rattle.part_table_layout.specs.Lookup.{find}
 use Rattle.part_table_layout.specs.Table.{count_of, offset_at, name_at, size_at, data_at, end_at, earliest, part_judged, may_repeat, may_stand, name_judged, header_judged, parts_judged, table_judged}
 use Rattle.part_table_layout.specs.declared.Found.TheVariants.{At as Number, Nothing}
@@ -23,7 +23,7 @@ use Rattle.places_layout.specs.Read.{source_of, is_there, readable, value_by, bo
 use Rattle.places_layout.specs.declared.SectionPlaces.{SectionPlaces}
 use Rattle.container_layout.specs.Container.{psv_of, before_psv, container_judged, container_answered}
 use Rattle.container_layout.specs.Report.{data_named, reported}
-use Rattle.signature_layout.specs.Signature.{element_at, name_ends, name_good, name_judged as signatureNameJudged, signature_judged, name_of}
+use Rattle.signature_layout.specs.Signature.{element_at, name_ends, name_good, name_judged as signature_name_judged, signature_judged, name_of}
 use Rattle.signature_layout.specs.declared.Name.{Name}
 use Rattle.signature_layout.specs.declared.Name.TheVariants.{At}
 use Rattle.signature_report_layout.specs.Listed.{listed, list_of}
@@ -125,7 +125,7 @@ said =
     ∷ []
 
 pub boxes_hold : given ≡ said
-unfolding table fits front more after countedIn well_formed code_points u16_at u32_at same_bytes ◌then◌ check when from each find count_of offset_at name_at size_at data_at end_at earliest part_judged may_repeat may_stand name_judged header_judged parts_judged table_judged mask_words_of sum head_judged fields_judged body_fits element_judged elements_judged entry_judged judged_at counted after_counted counted_fits records after_records records_fit rows sections body_of seen has_zero until_zero string_ends string_at string_good index_good value shown_at psv_of before_psv container_judged container_answered data_named reported element_at name_ends name_good signatureNameJudged signature_judged name_of signature_reported signature_report_of element_reported element_report_of psv_name differs_at first_difference difference_of
+unfolding table fits front more after counted_in well_formed code_points u16_at u32_at same_bytes ◌then◌ check when from each find count_of offset_at name_at size_at data_at end_at earliest part_judged may_repeat may_stand name_judged header_judged parts_judged table_judged mask_words_of sum head_judged fields_judged body_fits element_judged elements_judged entry_judged judged_at counted after_counted counted_fits records after_records records_fit rows sections body_of seen has_zero until_zero string_ends string_at string_good index_good value shown_at psv_of before_psv container_judged container_answered data_named reported element_at name_ends name_good signature_name_judged signature_judged name_of signature_reported signature_report_of element_reported element_report_of psv_name differs_at first_difference difference_of
 boxes_hold = refl
 
 -- ---- the second report by places: those of the container, but for the string table's length t and the number of elements n
@@ -180,5 +180,5 @@ by_places_said =
     ∷ []
 
 pub by_places_hold : by_places ≡ by_places_said
-unfolding table fits front more after countedIn well_formed u16_at u32_at same_bytes ◌then◌ check each sum has_zero until_zero string_ends string_at string_good value element_at name_ends name_good signatureNameJudged signature_judged differs_at first_difference source_of is_there readable value_by body_by seen_by answered_from answered_by shown_by info_by start_by length_by handed_by listed list_of needed_by names_by difference_by
+unfolding table fits front more after counted_in well_formed u16_at u32_at same_bytes ◌then◌ check each sum has_zero until_zero string_ends string_at string_good value element_at name_ends name_good signature_name_judged signature_judged differs_at first_difference source_of is_there readable value_by body_by seen_by answered_from answered_by shown_by info_by start_by length_by handed_by listed list_of needed_by names_by difference_by
 by_places_hold = refl

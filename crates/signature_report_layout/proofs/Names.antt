@@ -11,11 +11,11 @@ use borrow.Author.Tests.{le-leb, lt-leb, leb-true, leb-false, ltb-true}
 use Rattle.wire.specs.Number.{u32_at}
 use Rattle.wire.specs.declared.Verdict.TheVariants.{Accepted}
 use Rattle.psv0_layout.specs.Field.{element_total}
-use Rattle.psv0_layout.specs.Handed.{stringTable, elementRecords, handed}
+use Rattle.psv0_layout.specs.Handed.{string_table, element_records, handed}
 use Rattle.psv0_layout.specs.Judged.{opened}
 use Rattle.psv0_layout.specs.Layout.{guide_of, edition_read_of}
 use Rattle.psv0_layout.specs.Reference.{string_at}
-use Rattle.psv0_layout.specs.Shown.{Question, view, inputElements, outputElements, patchElements, elementString, set_if, value, shown_at}
+use Rattle.psv0_layout.specs.Shown.{Question, view, input_elements, output_elements, patch_elements, element_string, set_if, value, shown_at}
 use Rattle.psv0_layout.proofs.Listed.{handed_string}
 use Rattle.psv0_layout.proofs.Positions.{guide_seen}
 use Rattle.container_layout.specs.Container.{psv_of, container_judged, container_answered}
@@ -41,13 +41,13 @@ list_within Patch n m p = omega arith
 -- the three counts that a reading shows
 module _ (k : ℕ) (b : List ℕ) where
   abbrev pub inputs : ℕ
-  inputs = count_shown (container_answered k b inputElements)
+  inputs = count_shown (container_answered k b input_elements)
 
   abbrev pub outputs : ℕ
-  outputs = count_shown (container_answered k b outputElements)
+  outputs = count_shown (container_answered k b output_elements)
 
   abbrev pub patches : ℕ
-  patches = count_shown (container_answered k b patchElements)
+  patches = count_shown (container_answered k b patch_elements)
 
 module _ (k : ℕ) (b : List ℕ) (o : container_judged k b ≡ Accepted) where
   alone : opened k (psv_of b) ≡ Accepted
@@ -75,27 +75,27 @@ module _ (k : ℕ) (b : List ℕ) (o : container_judged k b ≡ Accepted) where
 
   -- element i over all lists
   string_listed : (i : ℕ) → i < inputs k b + outputs k b + patches k b
-      → container_answered k b (elementString i)
-      ≡ view (string_at (handed (edition_read_of k (psv_of b)) (psv_of b) stringTable)
-      (u32_at (handed (edition_read_of k (psv_of b)) (psv_of b) elementRecords)
-      (i * (length (handed (edition_read_of k (psv_of b)) (psv_of b) elementRecords) / (inputs k b + outputs k b + patches k b)))))
+      → container_answered k b (element_string i)
+      ≡ view (string_at (handed (edition_read_of k (psv_of b)) (psv_of b) string_table)
+      (u32_at (handed (edition_read_of k (psv_of b)) (psv_of b) element_records)
+      (i * (length (handed (edition_read_of k (psv_of b)) (psv_of b) element_records) / (inputs k b + outputs k b + patches k b)))))
   string_listed i l =
       let h = some_read l in
       let e = total_is h in
-      shown_is (elementString i) ∙ rw e (handed_string k (psv_of b) alone h i (rw e at l))
+      shown_is (element_string i) ∙ rw e (handed_string k (psv_of b) alone h i (rw e at l))
 
   pub names_listed : (s : SignaturePart) (i : ℕ)
-      → list_of s (inputs k b) (outputs k b) (patches k b) (handed (edition_read_of k (psv_of b)) (psv_of b) stringTable)
-      (handed (edition_read_of k (psv_of b)) (psv_of b) elementRecords) i
+      → list_of s (inputs k b) (outputs k b) (patches k b) (handed (edition_read_of k (psv_of b)) (psv_of b) string_table)
+      (handed (edition_read_of k (psv_of b)) (psv_of b) element_records) i
       ≡ psv_name s (container_answered k b) i
   unfolding list_of listed psv_name
   names_listed s i = go (ltb i (list_size s (inputs k b) (outputs k b) (patches k b))) refl
     where
       go : (t : Bool) → ltb i (list_size s (inputs k b) (outputs k b) (patches k b)) ≡ t
-          → set_if t (view (string_at (handed (edition_read_of k (psv_of b)) (psv_of b) stringTable)
-          (u32_at (handed (edition_read_of k (psv_of b)) (psv_of b) elementRecords)
-          ((list_before s (inputs k b) (outputs k b) + i) * (length (handed (edition_read_of k (psv_of b)) (psv_of b) elementRecords) / (inputs k b + outputs k b + patches k b))))))
-          ≡ set_if t (container_answered k b (elementString (list_before s (inputs k b) (outputs k b) + i)))
+          → set_if t (view (string_at (handed (edition_read_of k (psv_of b)) (psv_of b) string_table)
+          (u32_at (handed (edition_read_of k (psv_of b)) (psv_of b) element_records)
+          ((list_before s (inputs k b) (outputs k b) + i) * (length (handed (edition_read_of k (psv_of b)) (psv_of b) element_records) / (inputs k b + outputs k b + patches k b))))))
+          ≡ set_if t (container_answered k b (element_string (list_before s (inputs k b) (outputs k b) + i)))
       go true e =
           let l = ltb-true i (list_size s (inputs k b) (outputs k b) (patches k b)) e in
           let w = list_within s (inputs k b) (outputs k b) (patches k b) in

@@ -16,9 +16,9 @@ use Rattle.part_table_layout.specs.declared.Found.{Found}
 use Rattle.part_table_layout.specs.declared.Found.TheVariants.{Nothing}
 use Rattle.part_table_layout.specs.declared.Part.{Part}
 use Rattle.psv0_layout.specs.Answers.{field_of, info_of, info_answer_of, bytes_of}
-use Rattle.psv0_layout.specs.Handed.{Section, stringTable, elementRecords, handed}
+use Rattle.psv0_layout.specs.Handed.{Section, string_table, element_records, handed}
 use Rattle.psv0_layout.specs.Layout.{edition_read_of}
-use Rattle.psv0_layout.specs.Shown.{Value, unset, number, view, Question, inputElements, outputElements, patchElements}
+use Rattle.psv0_layout.specs.Shown.{Value, unset, number, view, Question, input_elements, output_elements, patch_elements}
 use Rattle.psv0_layout.specs.declared.InfoAnswer.{InfoAnswer}
 use Rattle.psv0_layout.specs.declared.Section.TheVariants.{StringTable, ElementRecords}
 use Rattle.psv0_layout.specs.declared.Span.{Span}
@@ -96,12 +96,12 @@ module _ (p : SectionPlaces) (b d : List ℕ) (s : SignaturePart) where
         all_there r e er =
             let v : Accepted ≡ needed_by p b =
             unfold needed_by in pass_then _ _ _ (rw ha at ea) (pass_then _ _ _ (sym hx.verdict ∙ ex) (sym e ∙ hy.verdict)) in
-            let i : count_in a.info.input_elements ≡ count_shown (shown_by p b inputElements) =
-            ap (λ (z : InfoAnswer). count_in z.info.input_elements) ha ∙ field_count (shown_by p b inputElements) in
-            let m : count_in a.info.output_elements ≡ count_shown (shown_by p b outputElements) =
-            ap (λ (z : InfoAnswer). count_in z.info.output_elements) ha ∙ field_count (shown_by p b outputElements) in
-            let c : count_in a.info.patch_elements ≡ count_shown (shown_by p b patchElements) =
-            ap (λ (z : InfoAnswer). count_in z.info.patch_elements) ha ∙ field_count (shown_by p b patchElements) in
+            let i : count_in a.info.input_elements ≡ count_shown (shown_by p b input_elements) =
+            ap (λ (z : InfoAnswer). count_in z.info.input_elements) ha ∙ field_count (shown_by p b input_elements) in
+            let m : count_in a.info.output_elements ≡ count_shown (shown_by p b output_elements) =
+            ap (λ (z : InfoAnswer). count_in z.info.output_elements) ha ∙ field_count (shown_by p b output_elements) in
+            let c : count_in a.info.patch_elements ≡ count_shown (shown_by p b patch_elements) =
+            ap (λ (z : InfoAnswer). count_in z.info.patch_elements) ha ∙ field_count (shown_by p b patch_elements) in
             let t = slice_is b x ∙ hx.bytes in
             let u = slice_is b y ∙ hy.bytes in
             let q : r ≡ first_difference d (names_by p b s) = er ∙ (λ j. first_difference d (list_of s (i j) (m j) (c j) (t j) (u j))) in
@@ -129,7 +129,7 @@ module _ (p : SectionPlaces) (b d : List ℕ) (s : SignaturePart) {g : Signature
 module _ (k : ℕ) (b : List ℕ) (o : container_judged k b ≡ Accepted) where
   needed_fresh : needed_by (container_places k b) b ≡ Accepted
   unfolding needed_by info_answer_of ◌then◌
-  needed_fresh = rw (info_fresh k b o, hands_fresh k b o stringTable, hands_fresh k b o elementRecords, o)
+  needed_fresh = rw (info_fresh k b o, hands_fresh k b o string_table, hands_fresh k b o element_records, o)
 
   shown_fresh : (q : Question) → shown_by (container_places k b) b q ≡ container_answered k b q
   unfolding shown_by
@@ -141,8 +141,8 @@ module _ (k : ℕ) (b : List ℕ) (o : container_judged k b ≡ Accepted) where
   names_fresh : (s : SignaturePart) (i : ℕ) → names_by (container_places k b) b s i ≡ psv_name s (container_answered k b) i
   unfolding names_by
   names_fresh s i =
-      (λ j. list_of s (count_shown (shown_fresh inputElements j)) (count_shown (shown_fresh outputElements j)) (count_shown (shown_fresh patchElements j))
-      (bytes_of (handed_fresh stringTable j)) (bytes_of (handed_fresh elementRecords j)) i)
+      (λ j. list_of s (count_shown (shown_fresh input_elements j)) (count_shown (shown_fresh output_elements j)) (count_shown (shown_fresh patch_elements j))
+      (bytes_of (handed_fresh string_table j)) (bytes_of (handed_fresh element_records j)) i)
       ∙ names_listed k b o s i
 
   fresh_by : (s : SignaturePart) → signature_judged (signature_data s b) ≡ signature_reported s k b

@@ -4,8 +4,8 @@ use Rattle.std.specs.Prelude.{List, ℕ}
 use Rattle.wire.specs.Verdict.{◌then◌}
 use Rattle.wire.specs.declared.Verdict.{Verdict}
 use Rattle.psv0_layout.specs.Answers.{bytes_of}
-use Rattle.psv0_layout.specs.Handed.{stringTable, elementRecords}
-use Rattle.psv0_layout.specs.Shown.{Value, inputElements, outputElements, patchElements}
+use Rattle.psv0_layout.specs.Handed.{string_table, element_records}
+use Rattle.psv0_layout.specs.Shown.{Value, input_elements, output_elements, patch_elements}
 use Rattle.places_layout.specs.Answers.{shown_by, info_by}
 use Rattle.places_layout.specs.Handed.{handed_by}
 use Rattle.places_layout.specs.declared.SectionPlaces.{SectionPlaces}
@@ -18,13 +18,13 @@ use Rattle.signature_report_layout.specs.declared.SignaturePart.{SignaturePart}
 module _ (p : SectionPlaces) (b : List ℕ) where
   -- "if all it needs lies inside", else 29: the runtime record, the string table and the element records
   unfoldable pub needed_by : Verdict
-  needed_by = (info_by p b).verdict then (handed_by p b stringTable).verdict then (handed_by p b elementRecords).verdict
+  needed_by = (info_by p b).verdict then (handed_by p b string_table).verdict then (handed_by p b element_records).verdict
 
   -- the names of the part's list: its counts from the runtime record, and the names from the table and the records as they stand
   unfoldable pub names_by : SignaturePart → ℕ → Value
   names_by s =
-      list_of s (count_shown (shown_by p b inputElements)) (count_shown (shown_by p b outputElements)) (count_shown (shown_by p b patchElements))
-      (bytes_of (handed_by p b stringTable).value) (bytes_of (handed_by p b elementRecords).value)
+      list_of s (count_shown (shown_by p b input_elements)) (count_shown (shown_by p b output_elements)) (count_shown (shown_by p b patch_elements))
+      (bytes_of (handed_by p b string_table).value) (bytes_of (handed_by p b element_records).value)
 
   -- 43 to 45 and 52 of the data, then 29
   unfoldable pub difference_by : SignaturePart → List ℕ → DifferenceReport

@@ -11,7 +11,7 @@ use Rattle.part_table_layout.specs.Lookup.{find, found_below}
 use Rattle.part_table_layout.specs.declared.Found.{Found}
 use Rattle.part_table_layout.specs.declared.Found.TheVariants.{Nothing}
 use Rattle.psv0_layout.specs.Reference.{string_at}
-use Rattle.psv0_layout.specs.Shown.{Value, unset, number, view, Question, inputElements, outputElements, patchElements, elementString, set_if}
+use Rattle.psv0_layout.specs.Shown.{Value, unset, number, view, Question, input_elements, output_elements, patch_elements, element_string, set_if}
 use Rattle.container_layout.specs.Container.{start_found, container_answered}
 use Rattle.container_layout.specs.Report.{data_named, reported}
 use Rattle.signature_layout.specs.Signature.{count_of, name_offset_of, signature_judged, answer_if}
@@ -85,9 +85,9 @@ list_before Patch n m = n + m
 -- the name of the PSV0 element of the same list, number i: unset where there is none
 unfoldable pub psv_name : SignaturePart → (Question → Value) → ℕ → Value
 psv_name s a i =
-    let n = count_shown (a inputElements) in
-    let m = count_shown (a outputElements) in
-    set_if (ltb i (list_size s n m (count_shown (a patchElements)))) (a (elementString (list_before s n m + i)))
+    let n = count_shown (a input_elements) in
+    let m = count_shown (a output_elements) in
+    set_if (ltb i (list_size s n m (count_shown (a patch_elements)))) (a (element_string (list_before s n m + i)))
 
 -- "whose name differs or is missing there": l is the element's name. Names are compared by their bytes
 abbrev pub differs : List ℕ → Value → Bool
