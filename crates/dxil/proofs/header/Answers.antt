@@ -1,7 +1,6 @@
 use mathlib.Core.Path.{ap}
 use Prim.Native.Nat.{ℕ, ◌/◌, ◌%◌}
 use Rattle.dxil_layout.specs.Program.{header_of}
-use borrow.Author.Rules.{rules}
 use Rattle.dxil.proofs.header.Goals as goal
 
 pub returns : goal.returns

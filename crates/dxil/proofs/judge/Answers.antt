@@ -1,5 +1,4 @@
 use Rattle.dxil_layout.proofs.Programs.{under_24, wrong_mark, past_end, inside}
-use borrow.Author.Rules.{rules}
 use Rattle.dxil.proofs.judge.Goals as goal
 
 pub returns-then-len-lt24 : goal.returns-then-len-lt24

@@ -1,4 +1,3 @@
-use borrow.Author.Rules.{rules}
 use Rattle.dxil.proofs.no_program.Goals as goal
 
 pub returns : goal.returns

@@ -1,7 +1,6 @@
 use mathlib.Core.Path.{◌∙◌}
 use Rattle.dxil_layout.specs.Program.{header_of, bitcode_start}
 use Rattle.dxil_layout.proofs.Programs.{none_shown, all_shown}
-use borrow.Author.Rules.{rules}
 use Rattle.dxil.proofs.read.Goals as goal
 
 pub returns-in-Refused : goal.returns-in-Refused

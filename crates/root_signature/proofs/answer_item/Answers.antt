@@ -1,5 +1,3 @@
-use mathlib.Core.Path.{sym, ap, ◌∙◌}
-use borrow.Author.Rules.{rules}
 use Rattle.root_signature.proofs.answer_item.Goals as goal
 
 pub item_at-requires : goal.item_at-requires

@@ -1,5 +1,4 @@
 use Rattle.wire.specs.Verdict.{◌then◌}
-use borrow.Author.Rules.{rules}
 use Rattle.root_signature.proofs.answer_range.Goals as goal
 
 pub returns-in-Refused : goal.returns-in-Refused

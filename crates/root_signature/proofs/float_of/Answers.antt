@@ -1,6 +1,5 @@
 use lib.Ieee
 use Rattle.root_signature_layout.proofs.Floats.{is_nan_lem, is_number}
-use borrow.Author.Rules.{rules}
 use Rattle.root_signature.proofs.float_of.Goals as goal
 
 pub returns-then-bits-gt2139095040 : goal.returns-then-bits-gt2139095040

@@ -1,5 +1,4 @@
 use Rattle.root_signature_layout.specs.Root.{header_of}
-use borrow.Author.Rules.{rules}
 use Rattle.root_signature.proofs.header.Goals as goal
 
 pub returns : goal.returns

@@ -1,6 +1,5 @@
 use mathlib.Core.Path.{◌∙◌}
 use Rattle.root_signature_layout.specs.Root.{item_alone_of}
-use borrow.Author.Rules.{rules}
 use Rattle.root_signature.proofs.item_alone.Goals as goal
 
 pub returns : goal.returns

@@ -1,6 +1,4 @@
-use mathlib.Core.Path.{◌∙◌}
 use Rattle.root_signature_layout.proofs.Steps.{parameter_shown, sampler_shown}
-use borrow.Author.Rules.{rules}
 use Rattle.root_signature.proofs.item_at.Goals as goal
 
 pub returns-then-i-parameters : goal.returns-then-i-parameters

@@ -1,7 +1,6 @@
 use mathlib.Core.Path.{sym, ◌∙◌}
 use Rattle.wire.proofs.Verdicts.{stop_then, pass_then}
 use Rattle.root_signature_layout.specs.Root.{root_judged}
-use borrow.Author.Rules.{rules}
 use Rattle.root_signature.proofs.judge.Goals as goal
 
 pub returns-in-Refused : goal.returns-in-Refused

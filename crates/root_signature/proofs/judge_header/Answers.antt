@@ -1,5 +1,4 @@
 use Rattle.root_signature_layout.proofs.Steps.{short_header, version_10, version_11, other_version}
-use borrow.Author.Rules.{rules}
 use Rattle.root_signature.proofs.judge_header.Goals as goal
 
 pub returns-then-d-lt24 : goal.returns-then-d-lt24

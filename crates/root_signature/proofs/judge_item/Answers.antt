@@ -1,5 +1,4 @@
 use Rattle.root_signature_layout.proofs.Steps.{parameter_decides, sampler_outside, sampler_inside}
-use borrow.Author.Rules.{rules}
 use Rattle.root_signature.proofs.judge_item.Goals as goal
 
 pub returns-then-i-parameters : goal.returns-then-i-parameters

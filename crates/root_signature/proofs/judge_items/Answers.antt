@@ -1,11 +1,6 @@
-use Prim.Native.Nat.{◌-◌, ◌≤◌}
-use mathlib.Core.Path.{◌≡◌, sym}
+use mathlib.Core.Path.{sym}
 use native.Mathlib.Omega.{arith}
-use borrow.Author.Rules.{rules}
-use Rattle.wire.specs.Verdict.{each}
-use Rattle.wire.specs.declared.Verdict.TheVariants.{Accepted}
 use Rattle.wire.proofs.Verdicts.{each_none, each_done}
-use Rattle.root_signature_layout.specs.Root.{item_judged}
 use Rattle.root_signature_layout.proofs.Steps.{item_stops, item_passes}
 use Rattle.root_signature.proofs.judge_items.Goals as goal
 
@@ -13,7 +8,7 @@ pub loop-i-init : goal.loop-i-init
 loop-i-init c = (omega arith, each_none _)
 
 pub judge_item-v-requires : goal.judge_item-v-requires
-judge_item-v-requires c = omega (arith, c.loop-i-test.true, c.u32_at.type-inv, c.u32_at-2.type-inv)
+judge_item-v-requires c = omega (arith, c.loop-i-test.true)
 
 pub returns-in-Refused : goal.returns-in-Refused
 returns-in-Refused c =

@@ -1,12 +1,8 @@
 use Prim.Native.Nat.{◌-◌, ◌≤◌}
-use mathlib.Core.Path.{◌≡◌, sym}
-use native.Mathlib.Omega.{arith}
-use borrow.Author.Rules.{rules}
+use mathlib.Core.Path.{◌≡◌}
 use Rattle.wire.specs.Verdict.{each}
 use Rattle.wire.specs.declared.Verdict.TheVariants.{Accepted}
-use Rattle.wire.proofs.Verdicts.{each_none, each_done}
 use Rattle.root_signature_layout.specs.Root.{item_judged}
-use Rattle.root_signature_layout.proofs.Steps.{item_stops, item_passes}
 use Rattle.root_signature.proofs.judge_items.Given as goal
 
 abbrev pub invariant-loop-i : goal.invariant-loop-i

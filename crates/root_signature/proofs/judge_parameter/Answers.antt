@@ -1,6 +1,5 @@
 use Rattle.root_signature_layout.proofs.Steps.{own_outside, other_type, data_outside, no_table, ranges_outside, ranges_inside}
 use mathlib.Core.Path.{refl}
-use borrow.Author.Rules.{rules}
 use Rattle.root_signature.proofs.judge_parameter.Goals as goal
 
 pub returns-then-len-at : goal.returns-then-len-at

@@ -1,5 +1,4 @@
 use Rattle.root_signature_layout.proofs.Steps.{a_table, some_constants, a_descriptor}
-use borrow.Author.Rules.{rules}
 use Rattle.root_signature.proofs.parameter.Goals as goal
 
 pub returns-then-kind-eq0 : goal.returns-then-kind-eq0

@@ -1,6 +1,5 @@
 use mathlib.Core.Path.{◌∙◌}
 use Rattle.root_signature_layout.specs.Root.{range_answer_of}
-use borrow.Author.Rules.{rules}
 use Rattle.root_signature.proofs.range.Goals as goal
 
 pub returns : goal.returns

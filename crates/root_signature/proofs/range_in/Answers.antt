@@ -1,6 +1,5 @@
 use mathlib.Core.Path.{◌∙◌}
 use Rattle.root_signature_layout.proofs.Steps.{no_parameter, not_a_table, no_such_range, a_range}
-use borrow.Author.Rules.{rules}
 use Rattle.root_signature.proofs.range_in.Goals as goal
 
 pub returns-then-u32_at-i : goal.returns-then-u32_at-i

@@ -1,5 +1,4 @@
 use Rattle.root_signature_layout.proofs.Steps.{none_read, header_read}
-use borrow.Author.Rules.{rules}
 use Rattle.root_signature.proofs.read.Goals as goal
 
 pub returns-in-Refused : goal.returns-in-Refused
