@@ -1,4 +1,3 @@
-use borrow.Author.Rules.{rules}
 use Rattle.part_table_layout.proofs.Threes.{all_listed}
 use Rattle.part_table.proofs.all_listed.Goals as goal
 

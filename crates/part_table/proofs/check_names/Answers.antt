@@ -1,4 +1,3 @@
-use borrow.Author.Rules.{rules}
 use Rattle.part_table.proofs.check_names.Goals as goal
 
 pub returns-then-counting : goal.returns-then-counting

@@ -1,9 +1,6 @@
 use Prim.Native.Nat.{◌-◌}
-use mathlib.Core.Path.{sym}
-use native.Mathlib.Omega.{arith}
 use lib.ListN.{get_or}
-use borrow.Author.Rules.{rules}
-use Rattle.part_table_layout.proofs.Counting.{Compared, compare_begin, compared_few, compare_on, compare_stops, compare_ends, compare_done}
+use Rattle.part_table_layout.proofs.Counting.{Compared}
 use Rattle.part_table.proofs.compare_names.Given as goal
 
 abbrev pub invariant-loop-k : goal.invariant-loop-k

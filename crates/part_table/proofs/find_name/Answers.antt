@@ -1,5 +1,4 @@
 use mathlib.Core.Path.{◌∙◌}
-use borrow.Author.Rules.{rules}
 use Rattle.part_table_layout.proofs.Lookups.{first_in}
 use Rattle.part_table.proofs.find_name.Goals as goal
 

@@ -1,7 +1,5 @@
 use Prim.Native.Nat.{◌-◌}
-use mathlib.Core.Logic.{⊎_elim}
-use borrow.Author.Rules.{rules}
-use Rattle.part_table_layout.proofs.Lookups.{all_capped, some_capped, Looked, look_begin, look_on, look_past, look_here, look_nowhere}
+use Rattle.part_table_layout.proofs.Lookups.{Looked}
 use Rattle.part_table.proofs.find_occurrence.Given as goal
 
 abbrev pub invariant-loop-i : goal.invariant-loop-i

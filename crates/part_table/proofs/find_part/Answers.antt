@@ -1,5 +1,4 @@
 use mathlib.Core.Path.{◌∙◌}
-use borrow.Author.Rules.{rules}
 use Rattle.part_table_layout.proofs.Threes.{three_first}
 use Rattle.part_table.proofs.find_part.Goals as goal
 

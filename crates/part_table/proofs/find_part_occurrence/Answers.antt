@@ -1,5 +1,4 @@
 use mathlib.Core.Path.{◌∙◌}
-use borrow.Author.Rules.{rules}
 use Rattle.part_table_layout.proofs.Lookups.{later_occurrence}
 use Rattle.part_table.proofs.find_part_occurrence.Goals as goal
 

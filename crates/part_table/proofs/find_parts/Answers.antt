@@ -1,9 +1,7 @@
-use Prim.Native.Nat.{◌-◌}
-use mathlib.Core.Path.{◌≡◌, refl, ◌∙◌}
+use mathlib.Core.Path.{refl, ◌∙◌}
 use borrow.Author.Rules.{rules}
-use Rattle.part_table_layout.specs.Table.{name_at, filled}
 use Rattle.part_table_layout.proofs.Filled.{filled_all}
-use Rattle.part_table_layout.proofs.Judged.{name_is, Walked, walk_begin, walk_on, walk_stops, eight_refused, nine_is}
+use Rattle.part_table_layout.proofs.Judged.{name_is, walk_begin, walk_on, walk_stops, eight_refused, nine_is}
 use Rattle.part_table_layout.proofs.Threes.{name_more, none_shown, all_shown}
 use Rattle.part_table.proofs.find_parts.Goals as goal
 

@@ -1,5 +1,4 @@
 use mathlib.Core.Path.{refl}
-use borrow.Author.Rules.{rules}
 use borrow.Author.Tests.{le-leb, lt-leb}
 use Rattle.wire.specs.Verdict.{◌then◌, check}
 use Rattle.wire.proofs.Choices.{differ, agree}

@@ -1,13 +1,7 @@
-use Prim.Native.Nat.{◌≤◌, ◌-◌}
-use mathlib.Core.Path.{◌≡◌, sym}
+use mathlib.Core.Path.{sym}
 use native.Mathlib.Numerals.{add-one}
-use lib.ListN.{get_or}
 use borrow.Author.Rules.{rules}
-use borrow.Author.Tests.{not-true, not-false}
-use Rattle.wire.specs.Verdict.{each}
-use Rattle.wire.specs.declared.Verdict.TheVariants.{Accepted}
 use Rattle.wire.proofs.Verdicts.{each_none, each_stop, each_next, each_done}
-use Rattle.part_table_layout.specs.Table.{name_judged}
 use Rattle.part_table_layout.proofs.Judged.{name_refused, name_accepted}
 use Rattle.part_table.proofs.judge_names.Goals as goal
 
@@ -17,13 +11,13 @@ loop-i-init c = (search rules, each_none _)
 pub returns-then-not-may_stand : goal.returns-then-not-may_stand
 returns-then-not-may_stand c =
     let inv = c.loop-i.invariant in
-    let stop = name_refused _ _ c.may_stand.ensures (not-true _ c.if-not-may_stand.true) in
+    let stop = name_refused _ _ c.may_stand.ensures c.if-not-may_stand.true in
     sym (each_stop _ _ _ _ _ c.loop-i-test.true inv.1 stop)
 
 pub loop-i-preserved : goal.loop-i-preserved
 loop-i-preserved c =
     let inv = c.loop-i.invariant in
-    (search rules, rw add-one (each_next _ _ inv.1 (name_accepted _ _ c.may_stand.ensures (not-false _ c.if-not-may_stand.false))))
+    (search rules, rw add-one (each_next _ _ inv.1 (name_accepted _ _ c.may_stand.ensures c.if-not-may_stand.false)))
 
 pub returns : goal.returns
 returns c =

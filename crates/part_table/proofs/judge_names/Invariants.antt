@@ -1,14 +1,9 @@
 use Prim.Native.Nat.{◌≤◌, ◌-◌}
-use mathlib.Core.Path.{◌≡◌, sym}
-use native.Mathlib.Numerals.{add-one}
+use mathlib.Core.Path.{◌≡◌}
 use lib.ListN.{get_or}
-use borrow.Author.Rules.{rules}
-use borrow.Author.Tests.{not-true, not-false}
 use Rattle.wire.specs.Verdict.{each}
 use Rattle.wire.specs.declared.Verdict.TheVariants.{Accepted}
-use Rattle.wire.proofs.Verdicts.{each_none, each_stop, each_next, each_done}
 use Rattle.part_table_layout.specs.Table.{name_judged}
-use Rattle.part_table_layout.proofs.Judged.{name_refused, name_accepted}
 use Rattle.part_table.proofs.judge_names.Given as goal
 
 abbrev pub invariant-loop-i : goal.invariant-loop-i

@@ -1,5 +1,4 @@
 use mathlib.Core.Path.{◌∙◌, ap}
-use borrow.Author.Rules.{rules}
 use Rattle.constants.specs.Name.{is_known}
 use Rattle.part_table.proofs.known.Goals as goal
 

@@ -1,5 +1,4 @@
 use mathlib.Core.Path.{◌∙◌}
-use borrow.Author.Rules.{rules}
 use Rattle.part_table_layout.proofs.Lookups.{later_first, later_refused, later_found}
 use Rattle.part_table.proofs.later_part.Goals as goal
 

@@ -1,6 +1,5 @@
 use mathlib.Core.Path.{sym, ◌∙◌}
 use native.Mathlib.Omega.{arith}
-use borrow.Author.Rules.{rules}
 use Rattle.part_table_layout.proofs.Lookups.{below_96}
 use Rattle.part_table_layout.proofs.Threes.{listed_nowhere, listed_there}
 use Rattle.part_table.proofs.listed.Goals as goal

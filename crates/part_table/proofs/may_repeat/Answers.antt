@@ -1,4 +1,3 @@
-use borrow.Author.Rules.{rules}
 use Rattle.part_table_layout.specs.Table.{may_repeat}
 use Rattle.part_table.proofs.may_repeat.Goals as goal
 

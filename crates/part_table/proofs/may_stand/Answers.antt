@@ -1,4 +1,3 @@
-use borrow.Author.Rules.{rules}
 use Rattle.part_table_layout.proofs.Judged.{stood, fresh}
 use Rattle.part_table.proofs.may_stand.Goals as goal
 

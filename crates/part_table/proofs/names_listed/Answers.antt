@@ -1,7 +1,5 @@
-use Prim.Native.Nat.{◌-◌, ◌≤◌}
-use mathlib.Core.Path.{◌≡◌, refl}
+use mathlib.Core.Path.{refl}
 use borrow.Author.Rules.{rules}
-use Rattle.part_table_layout.specs.Table.{name_at, filled}
 use Rattle.part_table_layout.proofs.Filled.{filled_all}
 use Rattle.part_table_layout.proofs.Judged.{offset_is, name_is}
 use Rattle.part_table_layout.proofs.Threes.{name_more}

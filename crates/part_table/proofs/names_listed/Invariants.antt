@@ -1,10 +1,6 @@
 use Prim.Native.Nat.{◌-◌, ◌≤◌}
-use mathlib.Core.Path.{◌≡◌, refl}
-use borrow.Author.Rules.{rules}
+use mathlib.Core.Path.{◌≡◌}
 use Rattle.part_table_layout.specs.Table.{name_at, filled}
-use Rattle.part_table_layout.proofs.Filled.{filled_all}
-use Rattle.part_table_layout.proofs.Judged.{offset_is, name_is}
-use Rattle.part_table_layout.proofs.Threes.{name_more}
 use Rattle.part_table.proofs.names_listed.Given as goal
 
 abbrev pub invariant-loop-k : goal.invariant-loop-k

@@ -1,4 +1,3 @@
-use borrow.Author.Rules.{rules}
 use Rattle.part_table.proofs.no_parts.Goals as goal
 
 pub returns : goal.returns

@@ -1,5 +1,4 @@
 use mathlib.Core.Path.{sym, ◌∙◌}
-use borrow.Author.Rules.{rules}
 use Rattle.part_table.proofs.occurrence_after.Goals as goal
 
 pub returns-then-may_repeat : goal.returns-then-may_repeat

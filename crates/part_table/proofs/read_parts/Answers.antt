@@ -1,15 +1,13 @@
-use Prim.Native.Nat.{◌-◌}
-use mathlib.Core.Path.{◌≡◌, sym, ◌∙◌, ap}
+use mathlib.Core.Path.{sym, ◌∙◌, ap}
 use native.Mathlib.Omega.{arith}
 use borrow.Author.Rules.{rules}
 use Rattle.wire.proofs.Sums.{count_begin}
-use Rattle.part_table_layout.specs.Table.{name_at}
 use Rattle.part_table_layout.specs.declared.Table.{Table}
 use Rattle.part_table_layout.proofs.Accepted.{part_told}
 use Rattle.part_table_layout.proofs.Counting.{eight_pairs, nine_pairs}
-use Rattle.part_table_layout.proofs.Judged.{name_is, gap_is, Walked, walk_begin, walk_on, walk_stops, eight_refused, nine_is}
-use Rattle.part_table_layout.proofs.Occurrences.{repeats_below, repeats_few, repeats_more, counted_here}
-use Rattle.part_table_layout.proofs.Readings.{table_to, entry_more, none_shown, all_shown}
+use Rattle.part_table_layout.proofs.Judged.{name_is, gap_is, walk_begin, walk_on, walk_stops, eight_refused, nine_is}
+use Rattle.part_table_layout.proofs.Occurrences.{repeats_few, repeats_more, counted_here}
+use Rattle.part_table_layout.proofs.Readings.{entry_more, none_shown, all_shown}
 use Rattle.part_table.proofs.read_parts.Goals as goal
 
 pub loop-i-init : goal.loop-i-init
@@ -53,19 +51,17 @@ loop-i-preserved c =
 pub returns-in-Refused-twice : goal.returns-in-Refused-twice
 returns-in-Refused-twice c =
     let checked = c.check_names-c.ensures in
-    let inv = c.loop.invariant in
-    let start = c.before in
+    let inv = c.loop-i.invariant in
     let names = ap (λ (u : Table). u.names) inv.1 in
-    let nine = nine_is _ start.requires.0 start.requires.1 inv.0 c.loop-test.false names checked.0 in
-    let pairs = nine_pairs _ start.args.counting start.requires.0 start.requires.1 inv.0 c.loop-test.false names checked.1 in
+    let nine = nine_is _ c.requires.0 c.requires.1 inv.0 c.loop-i-test.false names checked.0 in
+    let pairs = nine_pairs _ c.args.counting c.requires.0 c.requires.1 inv.0 c.loop-i-test.false names checked.1 in
     c.empty-in-Refused-twice.ensures ∙ none_shown _ pairs _ nine c.in-Refused-twice.is
 
 pub returns : goal.returns
 returns c =
     let checked = c.check_names-c.ensures in
-    let inv = c.loop.invariant in
-    let start = c.before in
+    let inv = c.loop-i.invariant in
     let names = ap (λ (u : Table). u.names) inv.1 in
-    let nine = nine_is _ start.requires.0 start.requires.1 inv.0 c.loop-test.false names checked.0 in
-    let pairs = nine_pairs _ start.args.counting start.requires.0 start.requires.1 inv.0 c.loop-test.false names checked.1 in
-    all_shown _ pairs _ nine c.in_default-twice.is start.requires.0 inv.0 c.loop-test.false inv.1
+    let nine = nine_is _ c.requires.0 c.requires.1 inv.0 c.loop-i-test.false names checked.0 in
+    let pairs = nine_pairs _ c.args.counting c.requires.0 c.requires.1 inv.0 c.loop-i-test.false names checked.1 in
+    all_shown _ pairs _ nine c.in_default-twice.is c.requires.0 inv.0 c.loop-i-test.false inv.1

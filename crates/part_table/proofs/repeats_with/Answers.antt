@@ -1,6 +1,5 @@
 use mathlib.Core.Path.{sym, ◌∙◌}
 use native.Mathlib.Omega.{arith}
-use borrow.Author.Rules.{rules}
 use Rattle.part_table.proofs.repeats_with.Goals as goal
 
 pub returns-then-may_repeat : goal.returns-then-may_repeat

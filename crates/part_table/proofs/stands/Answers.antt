@@ -1,9 +1,7 @@
-use Prim.Native.Nat.{◌≤◌, ◌-◌}
-use mathlib.Core.Path.{◌≡◌}
-use mathlib.Core.Logic.{⊎_elim}
 use borrow.Author.Rules.{rules}
-use Rattle.part_table_layout.proofs.Judged.{seen_below, none_seen, hit, miss, all_seen}
+use Rattle.part_table_layout.proofs.Judged.{none_seen, hit, miss, all_seen}
 use Rattle.part_table.proofs.stands.Goals as goal
+use Rattle.part_table.proofs.stands.Goals.{then-names-i, else-names-i}
 
 pub loop-i-init : goal.loop-i-init
 loop-i-init c = (search rules, none_seen _ _)
@@ -12,7 +10,7 @@ pub loop-i-preserved : goal.loop-i-preserved
 loop-i-preserved c =
     let inv = c.loop-i.invariant in (
       search rules,
-      ⊎_elim (λ w. hit _ _ _ w.1 w.0.taken) (λ w. miss _ _ _ w.1 inv.1 w.0.left) c.if-names-i.branch,
+      elim c.if-names-i.branch [ then-names-i w ↦ hit _ _ _ w.hit-is w.if-names-i.true | else-names-i w ↦ miss _ _ _ w.hit-is inv.1 w.if-names-i.false ],
     )
 
 pub returns : goal.returns

@@ -1,8 +1,6 @@
 use Prim.Native.Nat.{◌≤◌, ◌-◌}
 use mathlib.Core.Path.{◌≡◌}
-use mathlib.Core.Logic.{⊎_elim}
-use borrow.Author.Rules.{rules}
-use Rattle.part_table_layout.proofs.Judged.{seen_below, none_seen, hit, miss, all_seen}
+use Rattle.part_table_layout.proofs.Judged.{seen_below}
 use Rattle.part_table.proofs.stands.Given as goal
 
 abbrev pub invariant-loop-i : goal.invariant-loop-i

@@ -1,8 +1,5 @@
 use Prim.Native.Nat.{◌-◌}
-use mathlib.Core.Logic.{⊎_elim}
-use borrow.Author.Rules.{rules}
-use borrow.Author.Tests.{not-true, not-false}
-use Rattle.part_table_layout.proofs.Counting.{Against, against_none, against_other, against_repeated, against_match, against_all}
+use Rattle.part_table_layout.proofs.Counting.{Against}
 use Rattle.part_table.proofs.walk.Given as goal
 
 abbrev pub invariant-loop-j : goal.invariant-loop-j
