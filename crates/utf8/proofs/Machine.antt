@@ -12,8 +12,7 @@ use lib.Seq.{drop-cons}
 use borrow.Author.Tests.{le-ltb, ltb-true, ltb-false, eqb-true, ne_eqb}
 use Rattle.wire.specs.Choice.{choose}
 use Rattle.wire.proofs.Choices.{both}
-use Rattle.utf8_layout.specs.Lead.{follows}
-use Rattle.utf8_layout.specs.Sequence.{Range, ◌to◌, Count, sequences, broken, table, within, fits, front, more, after, counted, is_whole, well_formed}
+use Rattle.utf8_layout.specs.Sequence.{Range, ◌to◌, table, within, fits, front, after, counted, is_whole, well_formed}
 use Rattle.utf8_layout.proofs.Joined.{whole_more}
 use Rattle.utf8_layout.proofs.Rows.{Row, none, rest, row_for, front_of, front_for, front_length, table_rising, below, above}
 use Rattle.psv0_layout.specs.Reference.{has_zero, until_zero, string_ends, string_at, string_good}

@@ -10,7 +10,7 @@ use lib.ListN.{length, get_or, set}
 use lib.Seq.{get_or-set_same, get_or-set_other}
 use borrow.Author.Tests.{eq-eqb, ne_eqb, eqb-true, eqb-false}
 use Rattle.psv0_layout.specs.Reference.{string_good}
-use Rattle.utf8.specs.Marks.{past_by, past_at, flag, bit, mark_of, Marked}
+use Rattle.utf8.specs.Marks.{past_at, flag, bit, mark_of, Marked}
 
 -- ---- flags
 pub flag_read : (t : List ℕ) (p o : ℕ) (r : Bool) → o ≡ past_at t p → r ≡ string_good t o → r ≡ flag t p

@@ -1,8 +1,5 @@
-use Prim.Native.Nat.{◌-◌, ◌≤◌}
 use native.Mathlib.Omega.{arith}
-use borrow.Author.Rules.{rules}
-use lib.ListN.{length}
-use Rattle.utf8.proofs.Plain.{Counted, counted_begin, counted_more, counted_end, count_points}
+use Rattle.utf8.proofs.Plain.{counted_begin, counted_more, counted_end, count_points}
 use Rattle.utf8.proofs.code_points.Goals as goal
 
 pub loop-i-init : goal.loop-i-init

@@ -1,8 +1,6 @@
 use Prim.Native.Nat.{◌-◌, ◌≤◌}
-use native.Mathlib.Omega.{arith}
-use borrow.Author.Rules.{rules}
 use lib.ListN.{length}
-use Rattle.utf8.proofs.Plain.{Counted, counted_begin, counted_more, counted_end, count_points}
+use Rattle.utf8.proofs.Plain.{Counted}
 use Rattle.utf8.proofs.code_points.Given as goal
 
 abbrev pub invariant-loop-i : goal.invariant-loop-i

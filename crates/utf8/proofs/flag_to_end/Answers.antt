@@ -1,6 +1,5 @@
 use mathlib.Core.Path.{sym}
 use native.Mathlib.Omega.{arith}
-use borrow.Author.Rules.{rules}
 use Rattle.utf8.proofs.Marking.{flag_read}
 use Rattle.utf8.proofs.Stops.{flag_past}
 use Rattle.utf8.proofs.flag_to_end.Goals as goal

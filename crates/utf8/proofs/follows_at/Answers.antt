@@ -1,4 +1,3 @@
-use borrow.Author.Rules.{rules}
 use lib.ListN.{get_or}
 use Rattle.utf8.proofs.Stops.{follows_test}
 use Rattle.utf8.proofs.follows_at.Goals as goal

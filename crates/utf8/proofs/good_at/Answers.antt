@@ -1,7 +1,6 @@
 use Prim.Native.Nat.{◌+◌, ◌*◌, ◌/◌, ◌%◌}
 use mathlib.Core.Path.{sym, ◌∙◌}
 use native.Mathlib.Omega.{arith}
-use borrow.Author.Rules.{rules}
 use Rattle.utf8.proofs.Marking.{marked_flag}
 use Rattle.utf8.proofs.Stops.{good_past}
 use Rattle.utf8.proofs.good_at.Goals as goal

@@ -1,5 +1,4 @@
 use native.Mathlib.Omega.{arith}
-use borrow.Author.Rules.{rules}
 use Rattle.utf8.specs.Machine.{between}
 use Rattle.utf8.proofs.Stops.{by_next, by_state}
 use Rattle.utf8.proofs.good_by.Goals as goal

@@ -1,4 +1,3 @@
-use borrow.Author.Rules.{rules}
 use mathlib.Core.Path.{sym, ◌∙◌}
 use Rattle.utf8.proofs.One.{told_good, told_ill}
 use Rattle.utf8.proofs.is_good.Goals as goal

@@ -1,7 +1,5 @@
-use Prim.Native.Nat.{◌-◌, ◌≤◌}
 use native.Mathlib.Omega.{arith}
 use borrow.Author.Rules.{rules}
-use Rattle.utf8.specs.One.{Letters}
 use Rattle.utf8.proofs.One.{letters_none, letters_more}
 use Rattle.utf8.proofs.letters_end.Goals as goal
 

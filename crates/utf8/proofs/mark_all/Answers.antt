@@ -1,9 +1,7 @@
-use Prim.Native.Nat.{◌+◌, ◌-◌, ◌*◌, ◌/◌, ◌≤◌, min}
+use Prim.Native.Nat.{◌+◌, ◌-◌, ◌*◌}
 use mathlib.Core.Path.{◌≡◌, refl}
 use native.Mathlib.Omega.{arith}
-use borrow.Author.Rules.{rules}
-use lib.ListN.{length, length-set}
-use Rattle.utf8.specs.Marks.{flag, Marked}
+use lib.ListN.{length-set}
 use Rattle.utf8.proofs.Marking.{marked_begin, marked_back, marked_later, mark_first}
 use Rattle.utf8.proofs.mark_all.Goals as goal
 

@@ -1,10 +1,7 @@
-use Prim.Native.Nat.{◌+◌, ◌-◌, ◌*◌, ◌/◌, ◌≤◌, min}
-use mathlib.Core.Path.{◌≡◌, refl}
-use native.Mathlib.Omega.{arith}
-use borrow.Author.Rules.{rules}
-use lib.ListN.{length, length-set}
+use Prim.Native.Nat.{◌+◌, ◌*◌, ◌/◌, ◌≤◌, min}
+use mathlib.Core.Path.{◌≡◌}
+use lib.ListN.{length}
 use Rattle.utf8.specs.Marks.{flag, Marked}
-use Rattle.utf8.proofs.Marking.{marked_begin, marked_back, marked_later, mark_first}
 use Rattle.utf8.proofs.mark_all.Given as goal
 
 abbrev pub invariant-loop-j : goal.invariant-loop-j

@@ -1,4 +1,3 @@
-use borrow.Author.Rules.{rules}
 use Rattle.utf8.proofs.Marking.{flag_next, mark_made}
 use Rattle.utf8.proofs.mark_at.Goals as goal
 

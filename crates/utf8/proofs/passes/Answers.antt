@@ -1,7 +1,6 @@
-use mathlib.Core.Logic.{⊎_elim}
-use borrow.Author.Rules.{rules}
 use Rattle.utf8.proofs.Records.{passes_free, passes_bound, passes_named}
 use Rattle.utf8.proofs.passes.Goals as goal
+use Rattle.utf8.proofs.passes.Goals.{then-free+else-o-eq0, else-free}
 
 pub returns-then-o-eq0 : goal.returns-then-o-eq0
 returns-then-o-eq0 c =
@@ -11,7 +10,7 @@ returns-then-o-eq0 c =
 pub returns : goal.returns
 returns c =
     let a = c.args in
-    ⊎_elim
-    (λ w. passes_named a.t.now a.free a.o _ w.1.left c.good_at.ensures)
-    (λ w. passes_bound a.t.now a.free a.o _ w.left c.good_at.ensures)
-    c.if-free.branch
+    elim c.if-free.branch [
+      | then-free+else-o-eq0 w ↦ passes_named a.t.now a.free a.o _ w.if-o-eq0.false c.good_at.ensures
+      | else-free w ↦ passes_bound a.t.now a.free a.o _ w.if-free.false c.good_at.ensures
+    ]

@@ -1,10 +1,6 @@
-use Prim.Native.Nat.{◌-◌, ◌≤◌, ◌<◌}
 use native.Mathlib.Omega.{arith}
-use borrow.Author.Rules.{rules}
 use borrow.Author.Tests.{lt-ltb, ltb-true}
-use lib.ListN.{length}
-use Rattle.utf8.proofs.Plain.{AtMost, most_none, most_more, most_below, most_plain}
-use Rattle.psv0_layout.specs.Position.{PlainFrom}
+use Rattle.utf8.proofs.Plain.{most_none, most_more, most_below, most_plain}
 use Rattle.utf8.proofs.plain_from.Goals as goal
 
 pub loop-i-init : goal.loop-i-init

@@ -1,15 +1,9 @@
-use borrow.Author.Rules.{rules}
-use mathlib.Core.Logic.{⊎_elim}
-use native.Mathlib.Omega.{arith}
 use Rattle.utf8.proofs.One.{read_ill, read_letters}
 use Rattle.utf8.proofs.Stops.{good_past}
 use Rattle.utf8.proofs.read_string.Goals as goal
 
 pub returns-then-len-o : goal.returns-then-len-o
 returns-then-len-o c = let a = c.args in read_ill a.t.now a.o (good_past a.t.now a.o c.if-len-o.true)
-
-pub letters_end-i-requires : goal.letters_end-i-requires
-letters_end-i-requires c = ⊎_elim (λ w. (omega arith, omega arith)) (λ w. (omega arith, omega arith)) c.if-len-o-lt256.branch
 
 pub returns-then-t-i-eq0 : goal.returns-then-t-i-eq0
 returns-then-t-i-eq0 c =

@@ -1,8 +1,6 @@
 use Prim.Native.Nat.{◌≤◌, ◌-◌}
 use mathlib.Core.Path.{◌≡◌}
-use native.Mathlib.Omega.{arith}
 use Rattle.utf8.specs.Machine.{State, ran}
-use Rattle.utf8.proofs.Rows.{run_begin, run_more, state_small}
 use Rattle.utf8.proofs.run.Given as goal
 
 abbrev pub invariant-loop-p : goal.invariant-loop-p

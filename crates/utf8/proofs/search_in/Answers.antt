@@ -9,4 +9,4 @@ mark_all-requires c = (refl, search rules)
 
 pub search-requires : goal.search-requires
 unfolding rows_of
-search-requires c = (refl, c.mark-all.ensures.1)
+search-requires c = (refl, c.mark_all.ensures.1)
