@@ -3,13 +3,47 @@
 
 ghost use Rattle.io.specs.Counts.{IsPrefixLen};
 
+use std::env::{Env, FillError};
+use std::fs::File;
+use std::io::Read;
+use std::os::fd::AsRawFd;
 use words::Named;
 
+// Puts argument i at the start of the buffer and answers its length, 0 where it is missing or longer than the buffer.
+fn argument(rt: &HostRuntime, i: usize, buf: &mut [u8]) -> usize
+    ensures { IsPrefixLen result buf.new }
+{
+    match rt.arg(i, buf) {
+        Ok(n) => n,
+        Err(_) => 0,
+    }
+}
+
+// Whether there is an argument i. The program's own name is argument 0.
+fn given(rt: &HostRuntime, i: usize) -> bool {
+    let mut none = [0u8; 0];
+    match rt.arg(i, &mut none) {
+        Ok(_) => true,
+        Err(FillError::TooLong) => true,
+        Err(FillError::NotPresent) => false,
+    }
+}
+
+// How many arguments there are, the program's own name among them.
+pub fn count(rt: &HostRuntime) -> usize {
+    for i in 0..usize::MAX {
+        if !given(rt, i) {
+            return i;
+        }
+    }
+    usize::MAX
+}
+
 // The number that argument i names.
-pub fn number(i: usize) -> Named {
+pub fn number(rt: &HostRuntime, i: usize) -> Named {
     // As long as the longest word that Linux hands over.
     let mut word = [0u8; 131072];
-    let n = os::arg(i, &mut word);
+    let n = argument(rt, i, &mut word);
     words::number_of(&word[..n])
 }
 
@@ -28,45 +62,42 @@ pub struct FileRead {
     pub len: usize,
 }
 
-// Reads a file that is no longer than the buffer. What opens and can't be read, as a directory, counts as what can't be opened.
-fn read(path: &[u8], buf: &mut [u8]) -> FileRead
+// What an open file holds, where that is no longer than the buffer.
+fn read_open(mut open: File, buf: &mut [u8]) -> FileRead
     ensures { IsPrefixLen result.len buf.new }
 {
-    let fd = os::open_read(path);
-    if fd < 0 {
-        return FileRead {
-            contents: Contents::CannotOpen,
-            len: 0,
-        };
-    }
-    let len = io::read_full(fd, buf);
+    let len = io::read_full(open.as_raw_fd(), buf);
     // One read more tells the end from a byte too many, and from what can't be read.
     let mut more = [0u8; 1];
-    let extra = libc::read(fd, &mut more);
-    libc::close(fd);
-    if extra < 0 {
-        return FileRead {
-            contents: Contents::CannotOpen,
-            len,
-        };
-    }
-    if 0 < extra {
-        return FileRead {
-            contents: Contents::TooLong,
-            len,
-        };
+    let contents = match open.read(&mut more) {
+        Ok(0) => Contents::Whole,
+        Ok(_) => Contents::TooLong,
+        Err(_) => Contents::CannotOpen,
+    };
+    FileRead { contents, len }
+}
+
+// Reads a file that is no longer than the buffer. What opens and can't be read, as a directory, counts as what can't be opened.
+fn read(rt: &HostRuntime, path: &[u8], buf: &mut [u8]) -> FileRead
+    ensures { IsPrefixLen result.len buf.new }
+{
+    // A path is text for the library: a name that is not well-formed UTF-8 can't be opened.
+    if let Ok(name) = std::str::from_utf8(path) {
+        if let Ok(open) = File::open(rt, name) {
+            return read_open(open, buf);
+        }
     }
     FileRead {
-        contents: Contents::Whole,
-        len,
+        contents: Contents::CannotOpen,
+        len: 0,
     }
 }
 
 // The file whose name is argument i.
-pub fn file(i: usize, buf: &mut [u8]) -> FileRead
+pub fn file(rt: &HostRuntime, i: usize, buf: &mut [u8]) -> FileRead
     ensures { IsPrefixLen result.len buf.new }
 {
     let mut path = io::buffer();
-    let n = os::arg(i, &mut path);
-    read(&path[..n], buf)
+    let n = argument(rt, i, &mut path);
+    read(rt, &path[..n], buf)
 }

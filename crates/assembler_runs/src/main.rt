@@ -2,9 +2,11 @@
 // the file stdout.
 #![tactic(auto)]
 
-use libc::STDOUT_FILENO;
 use part_table_layout::Table;
 use wire::Verdict;
+
+// Standard output.
+const STDOUT_FILENO: i32 = 1;
 
 // ---- printing
 

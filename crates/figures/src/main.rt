@@ -31,11 +31,11 @@ fn add(f: Figures, i: usize, b: &[u8]) -> Figures {
 }
 
 // The file that an argument names. Files are counted from 0, arguments from the program's own name.
-fn add_file(f: Figures, argument: usize, buffer: &mut [u8]) -> Figures
+fn add_file(rt: &HostRuntime, f: Figures, argument: usize, buffer: &mut [u8]) -> Figures
     requires { 1 ≤ argument }
 {
     let i = argument - 1;
-    let r = arguments::file(argument, buffer);
+    let r = arguments::file(rt, argument, buffer);
     let contents = r.contents;
     let len = r.len;
     match contents {
@@ -89,13 +89,13 @@ fn show(f: Figures) {
     }
 }
 
-fn main() {
+fn main(rt: HostRuntime) {
     let mut buffer = io::large_buffer();
     let mut f = figures_counter::start(1);
-    let n = os::arg_count();
+    let n = arguments::count(&rt);
     let mut argument = 1;
     while argument < n {
-        f = add_file(f, argument, &mut buffer);
+        f = add_file(&rt, f, argument, &mut buffer);
         argument += 1;
     }
     show(f);

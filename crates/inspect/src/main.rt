@@ -1,7 +1,8 @@
 // Reads a container of at most 65,536 bytes from standard input and prints its part table, or its refusal.
 #![tactic(auto)]
 
-use libc::STDOUT_FILENO;
+// Standard output.
+const STDOUT_FILENO: i32 = 1;
 
 fn main() {
     // One byte more than is read of a container tells a longer input.

@@ -3,8 +3,10 @@
 
 ghost use Rattle.io.specs.Counts.{IsPrefixLen};
 
-use libc::STDOUT_FILENO;
 use lines::Line;
+
+// Standard output.
+const STDOUT_FILENO: i32 = 1;
 
 pub fn text(s: &[u8]) {
     io::write_all(STDOUT_FILENO, s);

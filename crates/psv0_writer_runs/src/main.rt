@@ -2,10 +2,12 @@
 // stdout. The output holds 512 bytes of 170, of which the writer is lent some.
 #![tactic(auto)]
 
-use libc::STDOUT_FILENO;
 use psv0_sections::Places;
 use psv0_writer_layout::Written;
 use wire::Verdict;
+
+// Standard output.
+const STDOUT_FILENO: i32 = 1;
 
 // ---- printing
 

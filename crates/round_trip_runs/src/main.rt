@@ -2,9 +2,11 @@
 // again from what the reading hands out: compared with the file stdout. An unset value is `-`.
 #![tactic(auto)]
 
-use libc::STDOUT_FILENO;
 use psv0_layout::{ElementRecord, Field, ResourceRecord, RuntimeInfo, Section, View};
 use wire::Verdict;
+
+// Standard output.
+const STDOUT_FILENO: i32 = 1;
 
 // ---- printing
 

@@ -65,9 +65,9 @@ fn show(d: &[u8], version: u32) {
     }
 }
 
-fn show_file(version: u32) {
+fn show_file(rt: &HostRuntime, version: u32) {
     let mut buffer = io::large_buffer();
-    let r = arguments::file(2, &mut buffer);
+    let r = arguments::file(rt, 2, &mut buffer);
     let contents = r.contents;
     let len = r.len;
     match contents {
@@ -81,15 +81,15 @@ fn usage() {
     text(b"usage: settings VERSION FILE\n");
 }
 
-fn main() {
+fn main(rt: HostRuntime) {
     // The program's own name counts as an argument.
-    if os::arg_count() != 3 {
+    if arguments::count(&rt) != 3 {
         usage();
         return;
     }
-    let version = arguments::number(1);
+    let version = arguments::number(&rt, 1);
     match version {
-        Named::Number(v) => show_file(v),
+        Named::Number(v) => show_file(&rt, v),
         Named::Greater | Named::Nothing => usage(),
     }
 }

@@ -739,9 +739,9 @@ fn show(b: &[u8], edition: usize) {
     }
 }
 
-fn show_file(edition: usize) {
+fn show_file(rt: &HostRuntime, edition: usize) {
     let mut buffer = io::large_buffer();
-    let r = arguments::file(2, &mut buffer);
+    let r = arguments::file(rt, 2, &mut buffer);
     let contents = r.contents;
     let len = r.len;
     match contents {
@@ -755,17 +755,17 @@ fn usage() {
     text(b"usage: show EDITION FILE\n");
 }
 
-fn main() {
+fn main(rt: HostRuntime) {
     // The program's own name counts as an argument.
-    if os::arg_count() != 3 {
+    if arguments::count(&rt) != 3 {
         usage();
         return;
     }
-    let edition = arguments::number(1);
+    let edition = arguments::number(&rt, 1);
     match edition {
-        Named::Number(e) => show_file(e as usize),
+        Named::Number(e) => show_file(&rt, e as usize),
         // No edition is so great: 25, as any above 3.
-        Named::Greater => show_file(4),
+        Named::Greater => show_file(&rt, 4),
         Named::Nothing => usage(),
     }
 }
