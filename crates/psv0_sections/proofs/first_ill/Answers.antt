@@ -1,7 +1,5 @@
-use Rattle.psv0_layout.specs.Position.{reference_at}
 use Rattle.psv0_layout.proofs.References.{whole_slice, decided_plain, decided_first}
 use Rattle.utf8.specs.Referred.{passes, first_ill}
-use borrow.Author.Rules.{rules}
 use Rattle.psv0_sections.proofs.first_ill.Goals as goal
 
 pub returns-then-plain_from : goal.returns-then-plain_from

@@ -1,4 +1,4 @@
-use Prim.Native.Nat.{◌≤◌, ◌+◌, ◌-◌, ◌*◌}
+use Prim.Native.Nat.{ℕ, ◌≤◌, ◌<◌, ◌+◌, ◌*◌}
 use mathlib.Core.Path.{◌≡◌, refl, sym}
 use native.Mathlib.Omega.{arith}
 use native.Mathlib.Numerals.{add-one}
@@ -6,32 +6,25 @@ use native.Mathlib.Nat.{zero-mul, suc-mul}
 use borrow.Author.Rules.{rules}
 use lib.ListN.{length}
 use Rattle.wire.specs.Verdict.{each}
-use Rattle.wire.specs.declared.Verdict.TheVariants.{Accepted}
-use Rattle.psv0_layout.specs.Judged.{element_judged}
-use Rattle.psv0_layout.specs.Layout.{Body, rows}
-use Rattle.psv0_layout.specs.Position.{Judging}
 use Rattle.psv0_layout.proofs.Judgements.{stays_inside, name_22, ill_22, index_23, element_passes, elements_pass}
 use Rattle.psv0_sections.proofs.judge_elements.Goals as goal
 
 -- element i, with the bytes that are known of it, ends inside
-inside : (n : tie.In-loop invariant-loop decreases-loop)
-    → let a = n.before.before.before.args in
-    (n.before.loop.at + 16 ≤ length a.e.now) × (n.before.loop.at + a.stride ≤ length a.e.now)
-inside n =
-    let s = n.before.before.before in
-    let l = n.before.loop in
-    let end = stays_inside l.i s.args.count s.args.stride (length s.args.e.now) n.loop-test.true s.requires.0 in
-    let known = s.requires.1 (omega (arith, n.loop-test.true)) in
-    (omega (arith, l.invariant.2), omega (arith, l.invariant.2))
+inside : (i n stride size at : ℕ) → i < n → n * stride ≤ size → (1 ≤ n → 16 ≤ stride) → at ≡ i * stride
+    → (at + 16 ≤ size) × (at + stride ≤ size)
+inside i n stride size at h f w q =
+    let end = stays_inside i n stride size h f in
+    let known = w (omega arith) in
+    (omega arith, omega arith)
 
 pub loop-i-init : goal.loop-i-init
 loop-i-init c = (search rules, omega arith, sym (zero-mul _), λ b j. unfold each in refl)
 
 pub overflow_add-known : goal.overflow_add-known
-overflow_add-known c = omega (arith, (inside c).0)
+overflow_add-known c = omega (arith, (inside c.loop-i.i c.args.count c.args.stride (length c.args.e.now) c.loop-i.at c.loop-i-test.true c.requires.0 c.requires.1 c.loop-i.invariant.2).0)
 
 pub slice_bounds-r-end : goal.slice_bounds-r-end
-slice_bounds-r-end c = (inside c).0
+slice_bounds-r-end c = (inside c.loop-i.i c.args.count c.args.stride (length c.args.e.now) c.loop-i.at c.loop-i-test.true c.requires.0 c.requires.1 c.loop-i.invariant.2).0
 
 pub returns-then-end-u32_at : goal.returns-then-end-u32_at
 returns-then-end-u32_at c =
@@ -51,7 +44,7 @@ returns-then-indices-u32_at c =
     c.if-i-ill.false _ _ c.u32_at-in-loop-i.ensures c.byte_at.ensures c.if-indices-u32_at.true
 
 pub overflow_add-at : goal.overflow_add-at
-overflow_add-at c = omega (arith, (inside c).1)
+overflow_add-at c = omega (arith, (inside c.loop-i.i c.args.count c.args.stride (length c.args.e.now) c.loop-i.at c.loop-i-test.true c.requires.0 c.requires.1 c.loop-i.invariant.2).1)
 
 pub loop-i-preserved : goal.loop-i-preserved
 loop-i-preserved c =

@@ -1,5 +1,4 @@
 use Rattle.psv0_layout.proofs.Judgements.{entry_early, entry_24, entry_ill, entry_passes}
-use borrow.Author.Rules.{rules}
 use Rattle.psv0_sections.proofs.judge_entry.Goals as goal
 
 pub returns-then-edition-lt3 : goal.returns-then-edition-lt3

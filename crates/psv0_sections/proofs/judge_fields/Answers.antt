@@ -1,4 +1,3 @@
-use borrow.Author.Rules.{rules}
 use native.Mathlib.Omega.{arith}
 use Rattle.psv0_layout.proofs.Judgements.{stage_15, view_16, geometry_passes, streams_17, fields_pass}
 use Rattle.psv0_sections.proofs.judge_fields.Goals as goal

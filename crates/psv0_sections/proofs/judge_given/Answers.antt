@@ -1,7 +1,6 @@
 use mathlib.Core.Path.{refl}
 use Rattle.psv0_layout.specs.Given.{tables}
 use Rattle.psv0_layout.proofs.Judgements.{given_early, given_fields, given_tables}
-use borrow.Author.Rules.{rules}
 use Rattle.psv0_sections.proofs.judge_given.Goals as goal
 
 pub returns-then-edition-eq0 : goal.returns-then-edition-eq0

@@ -1,6 +1,5 @@
 use Rattle.psv0_layout.specs.Layout.{seen, sections}
 use Rattle.psv0_sections.proofs.Opening.{strings_read, indices_read, elements_read, entry_read}
-use borrow.Author.Rules.{rules}
 use Rattle.psv0_sections.proofs.judge_references.Goals as goal
 
 pub returns : goal.returns

@@ -1,4 +1,3 @@
-use borrow.Author.Rules.{rules}
 use mathlib.Core.Path.{sym, ◌∙◌}
 use Rattle.psv0_sections.proofs.Opening.{edition_25, length_2, head_refused, head_alone, head_read, body_located}
 use Rattle.psv0_sections.proofs.locate.Goals as goal

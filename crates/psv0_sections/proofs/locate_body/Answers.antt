@@ -1,4 +1,3 @@
-use borrow.Author.Rules.{rules}
 use mathlib.Core.Path.{sym, ◌∙◌}
 use Rattle.psv0_sections.proofs.Opening.{guide_inside, asked, fields_refused, rest_refused, placed_rest, references_refused, all_accepted}
 use Rattle.psv0_sections.proofs.locate_body.Goals as goal

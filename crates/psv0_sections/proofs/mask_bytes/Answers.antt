@@ -1,4 +1,3 @@
-use borrow.Author.Rules.{rules}
 use Rattle.psv0_layout.proofs.Masks.{bytes_are, bytes_fit}
 use Rattle.psv0_sections.proofs.mask_bytes.Goals as goal
 

@@ -1,4 +1,3 @@
-use borrow.Author.Rules.{rules}
 use mathlib.Core.Path.{◌∙◌}
 use Rattle.psv0_layout.proofs.Masks.{output_some, hull_mask, domain_mask, mask_none}
 use Rattle.psv0_sections.proofs.mask_words.Goals as goal

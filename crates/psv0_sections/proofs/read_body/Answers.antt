@@ -1,4 +1,3 @@
-use borrow.Author.Rules.{rules}
 use native.Mathlib.Omega.{arith}
 use mathlib.Core.Path.{sym, ◌∙◌}
 use Rattle.psv0_sections.proofs.Walking.{of_past}
@@ -16,7 +15,7 @@ overflow_add-result c =
 
 pub overflow_add-result-in-Past-masks : goal.overflow_add-result-in-Past-masks
 overflow_add-result-in-Past-masks c =
-    omega (arith, (of_past _ _ _ _ _ (sym c.counted-in-Past.ensures ∙ c.in-Past-counted.is)).inside, c.well-formed.0)
+    omega (arith, (of_past _ _ _ _ _ (sym c.counted-in-Past.ensures ∙ c.in-Past-counted.is)).inside)
 
 pub returns-in-Short : goal.returns-in-Short
 returns-in-Short c =

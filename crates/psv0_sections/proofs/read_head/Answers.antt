@@ -1,4 +1,3 @@
-use borrow.Author.Rules.{rules}
 use mathlib.Core.Path.{sym, ◌∙◌}
 use Rattle.psv0_sections.proofs.Reading.{size_short, size_four, size_least, runtime_short, runtime_read}
 use Rattle.psv0_sections.proofs.read_head.Goals as goal

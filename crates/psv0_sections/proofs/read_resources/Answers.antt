@@ -1,4 +1,3 @@
-use borrow.Author.Rules.{rules}
 use mathlib.Core.Path.{sym, ◌∙◌, ap}
 use Rattle.psv0_sections.specs.declared.Head.TheVariants.{Read}
 use Rattle.psv0_sections.specs.declared.Places.{Places}

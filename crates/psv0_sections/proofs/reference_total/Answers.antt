@@ -1,5 +1,4 @@
 use Rattle.psv0_layout.proofs.Judgements.{total_early, total_later}
-use borrow.Author.Rules.{rules}
 use Rattle.psv0_sections.proofs.reference_total.Goals as goal
 
 pub returns-then-edition-lt3 : goal.returns-then-edition-lt3

@@ -1,4 +1,3 @@
-use borrow.Author.Rules.{rules}
 use Rattle.wire.specs.declared.Verdict.TheVariants.{Refused}
 use Rattle.psv0_sections.proofs.refused.Goals as goal
 

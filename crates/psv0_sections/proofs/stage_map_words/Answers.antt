@@ -1,4 +1,3 @@
-use borrow.Author.Rules.{rules}
 use mathlib.Core.Path.{◌∙◌}
 use Rattle.psv0_layout.proofs.Masks.{stage_none, stage_some}
 use Rattle.psv0_sections.proofs.stage_map_words.Goals as goal

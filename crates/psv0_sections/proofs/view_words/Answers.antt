@@ -1,4 +1,3 @@
-use borrow.Author.Rules.{rules}
 use mathlib.Core.Path.{◌∙◌}
 use mathlib.Core.Logic.{inl, inr}
 use Rattle.psv0_layout.proofs.Masks.{view_none, view_some, patch_some, patch_none}

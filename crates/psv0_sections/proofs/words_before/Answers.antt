@@ -1,9 +1,4 @@
-use Prim.Native.Nat.{◌≤◌, ◌-◌}
-use mathlib.Core.Path.{◌≡◌}
 use native.Mathlib.Omega.{arith}
-use borrow.Author.Rules.{rules}
-use lib.ListN.{take}
-use Rattle.psv0_layout.specs.Field.{mask_words_of, sum}
 use Rattle.psv0_layout.proofs.Masks.{none_before, one_more, total_fits, all_before}
 use Rattle.psv0_sections.proofs.words_before.Goals as goal
 
