@@ -1,10 +1,8 @@
 use lib.ListN.{length}
 use Rattle.assembler_layout.proofs.Sections.{round_up_most, end_next}
-use Prim.Native.Nat.{◌+◌, ◌-◌, ◌*◌, ◌≤◌}
 use mathlib.Core.Path.{◌≡◌, refl}
 use native.Mathlib.Omega.{arith}
 use Rattle.assembler_layout.specs.Assembled.{end_before}
-use Rattle.assembler_layout.specs.Answer.{sized}
 use borrow.Author.Rules.{rules}
 use Rattle.assembler.proofs.file_length.Goals as goal
 

@@ -1,14 +1,8 @@
 use Rattle.assembler_layout.proofs.Checks.{name_stood, name_fresh, name_seen}
 use Rattle.wire.proofs.Verdicts.{each_none, each_done}
-use Prim.Native.Nat.{◌-◌, ◌*◌, ◌≤◌}
-use mathlib.Core.Path.{◌≡◌, refl, sym}
+use mathlib.Core.Path.{refl, sym}
 use native.Mathlib.Omega.{arith}
-use Rattle.wire.specs.Number.{u32_at}
-use Rattle.wire.specs.Verdict.{each}
-use Rattle.wire.specs.declared.Verdict.TheVariants.{Accepted}
-use Rattle.part_table_layout.specs.Table.{name_judged, filled}
 use borrow.Author.Rules.{rules}
-use borrow.Author.Tests.{not-true, not-false}
 use Rattle.assembler.proofs.judge_names.Goals as goal
 
 pub loop-i-init : goal.loop-i-init
@@ -17,7 +11,7 @@ loop-i-init c = (search rules, (refl, each_none _))
 pub returns-then-not-may_stand : goal.returns-then-not-may_stand
 returns-then-not-may_stand c =
     let l = c.loop-i in
-    name_stood _ c.requires c.loop-i-test.true c.u32_at-name.ensures l.invariant.1.0 c.may_stand.ensures l.invariant.1.1 (not-true _ c.if-not-may_stand.true)
+    name_stood _ c.requires c.loop-i-test.true c.u32_at-name.ensures l.invariant.1.0 c.may_stand.ensures l.invariant.1.1 c.if-not-may_stand.true
 
 pub loop-i-preserved : goal.loop-i-preserved
 loop-i-preserved c =
@@ -27,7 +21,7 @@ loop-i-preserved c =
       omega arith,
       (
         name_seen _ few less c.u32_at-name.ensures l.invariant.1.0 c.may_stand.ensures l.invariant.1.1,
-        name_fresh _ few less c.u32_at-name.ensures l.invariant.1.0 c.may_stand.ensures l.invariant.1.1 (not-false _ c.if-not-may_stand.false),
+        name_fresh _ few less c.u32_at-name.ensures l.invariant.1.0 c.may_stand.ensures l.invariant.1.1 c.if-not-may_stand.false,
       ),
     )
 

@@ -1,14 +1,9 @@
-use Rattle.assembler_layout.proofs.Checks.{name_stood, name_fresh, name_seen}
-use Rattle.wire.proofs.Verdicts.{each_none, each_done}
 use Prim.Native.Nat.{◌-◌, ◌*◌, ◌≤◌}
-use mathlib.Core.Path.{◌≡◌, refl, sym}
-use native.Mathlib.Omega.{arith}
+use mathlib.Core.Path.{◌≡◌}
 use Rattle.wire.specs.Number.{u32_at}
 use Rattle.wire.specs.Verdict.{each}
 use Rattle.wire.specs.declared.Verdict.TheVariants.{Accepted}
 use Rattle.part_table_layout.specs.Table.{name_judged, filled}
-use borrow.Author.Rules.{rules}
-use borrow.Author.Tests.{not-true, not-false}
 use Rattle.assembler.proofs.judge_names.Given as goal
 
 abbrev pub invariant-loop-i : goal.invariant-loop-i

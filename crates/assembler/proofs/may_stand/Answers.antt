@@ -1,5 +1,4 @@
 use mathlib.Core.Path.{refl}
-use borrow.Author.Rules.{rules}
 use Rattle.part_table_layout.proofs.Judged.{stood, fresh}
 use Rattle.part_table_layout.proofs.Lookups.{found_stood, none_stood}
 use Rattle.assembler.proofs.may_stand.Goals as goal

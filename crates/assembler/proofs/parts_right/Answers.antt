@@ -1,7 +1,6 @@
 use native.Mathlib.Omega.{arith}
 use mathlib.Core.Path.{◌∙◌}
 use Rattle.assembler_layout.proofs.Checks.{names_wrong, digest_wrong, sum_decides}
-use borrow.Author.Rules.{rules}
 use Rattle.assembler.proofs.parts_right.Goals as goal
 
 pub returns-then-len-ne0 : goal.returns-then-len-ne0

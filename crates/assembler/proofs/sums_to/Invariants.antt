@@ -1,10 +1,7 @@
 use Prim.Native.Nat.{◌+◌, ◌-◌, ◌≤◌}
 use mathlib.Core.Path.{◌≡◌}
-use native.Mathlib.Omega.{arith}
 use lib.ListN.{take}
 use Rattle.assembler_layout.specs.Assembled.{total}
-use Rattle.assembler_layout.proofs.Checks.{sum_less, sum_more, sum_all}
-use borrow.Author.Rules.{rules}
 use Rattle.assembler.proofs.sums_to.Given as goal
 
 abbrev pub invariant-loop-i : goal.invariant-loop-i

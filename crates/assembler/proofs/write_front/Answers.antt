@@ -6,7 +6,6 @@ use lib.ListN.{length}
 use Rattle.wire.proofs.Stretches.{none_written, written_more, all_written}
 use Rattle.part_table_layout.proofs.Laid.{offsets_length}
 use Rattle.assembler_layout.proofs.Sections.{header_length, table_inside}
-use borrow.Author.Rules.{rules}
 use Rattle.assembler.proofs.write_front.Goals as goal
 
 pub overflow_cast-n : goal.overflow_cast-n

@@ -4,7 +4,6 @@ use Rattle.wire.specs.Number.{le16, le32}
 use Rattle.wire.proofs.Stretches.{none_written, written_copy, written_number, all_written}
 use Rattle.part_table_layout.specs.Table.{magic}
 use Rattle.assembler_layout.proofs.Sections.{header_is}
-use borrow.Author.Rules.{rules}
 use Rattle.assembler.proofs.write_header.Goals as goal
 
 pub returns : goal.returns

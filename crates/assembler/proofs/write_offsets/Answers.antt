@@ -1,38 +1,28 @@
-use Prim.Native.Nat.{◌*◌, ◌-◌, ◌≤◌}
-use mathlib.Core.Path.{◌≡◌, refl}
+use mathlib.Core.Path.{refl}
 use native.Mathlib.Omega.{arith}
 use borrow.Author.Rules.{rules}
-use Rattle.wire.proofs.Stretches.{Written, none_written, written_length_lem}
+use Rattle.wire.proofs.Stretches.{none_written, written_length_lem}
 use Rattle.part_table_layout.specs.Table.{offset_bytes}
-use Rattle.assembler_layout.specs.Assembled.{end_before, offsets_from}
+use Rattle.assembler_layout.specs.Assembled.{end_before}
 use Rattle.assembler_layout.specs.Answer.{sized}
 use Rattle.assembler_layout.proofs.Sections.{StartFits, start_fits, end_next, offset_more, all_offsets}
 use Rattle.assembler.proofs.write_offsets.Goals as goal
-
--- what is known of part i in a turn
-fits : (c : tie.In-loop invariant-loop decreases-loop) → StartFits (sized c.before.before.before.before.args.sizes.now) c.before.loop.i c.before.loop.end
-fits c =
-    let l = c.before.loop in
-    start_fits (sized _) c.before.before.before.before.requires.1 c.loop-test.true l.invariant.1.0
 
 pub loop-i-init : goal.loop-i-init
 unfolding end_before offset_bytes
 loop-i-init c = (search rules, (refl, none_written _))
 
 pub round_up-start-requires : goal.round_up-start-requires
-round_up-start-requires c = let f = fits c in omega arith
+round_up-start-requires c = let f : StartFits (sized c.args.sizes.now) c.loop-i.i c.loop-i.end = start_fits (sized _) c.requires.1 c.loop-i-test.true c.loop-i.invariant.1.0 in omega arith
 
 pub overflow_cast-start : goal.overflow_cast-start
-overflow_cast-start c = let f = fits c in omega (arith, c.round_up-start.ensures)
+overflow_cast-start c = let f : StartFits (sized c.args.sizes.now) c.loop-i.i c.loop-i.end = start_fits (sized _) c.requires.1 c.loop-i-test.true c.loop-i.invariant.1.0 in omega (arith, c.round_up-start.ensures)
 
 pub overflow_add-end-in-loop-i : goal.overflow_add-end-in-loop-i
-overflow_add-end-in-loop-i c = let f = fits c in omega (arith, c.round_up-start.ensures)
-
-pub overflow_cast-end : goal.overflow_cast-end
-overflow_cast-end c = omega (arith, c.shared_slice_known-in-loop-i-1.given c.loop-i.i)
+overflow_add-end-in-loop-i c = let f : StartFits (sized c.args.sizes.now) c.loop-i.i c.loop-i.end = start_fits (sized _) c.requires.1 c.loop-i-test.true c.loop-i.invariant.1.0 in omega (arith, c.round_up-start.ensures)
 
 pub overflow_add-end-in-loop-i-2 : goal.overflow_add-end-in-loop-i-2
-overflow_add-end-in-loop-i-2 c = let f = fits c in omega (arith, c.round_up-start.ensures)
+overflow_add-end-in-loop-i-2 c = let f : StartFits (sized c.args.sizes.now) c.loop-i.i c.loop-i.end = start_fits (sized _) c.requires.1 c.loop-i-test.true c.loop-i.invariant.1.0 in omega (arith, c.round_up-start.ensures)
 
 pub loop-i-preserved : goal.loop-i-preserved
 loop-i-preserved c =
@@ -42,7 +32,7 @@ loop-i-preserved c =
     let e = c.round_up-start.ensures in
     let f = l.invariant.1.0 in (
       omega arith,
-      (rw (e, f) (end_next g l.i), offset_more g room l.i l.invariant.1.1 c.loop-i-test.true (rw f c e) c.put_u32.ensures),
+      (rw (e, f) (end_next g l.i), offset_more g room l.i l.invariant.1.1 c.loop-i-test.true (rw f at e) c.put_u32.ensures),
     )
 
 pub shape_of-out : goal.shape_of-out

@@ -1,12 +1,8 @@
 use Prim.Native.Nat.{◌*◌, ◌-◌, ◌≤◌}
-use mathlib.Core.Path.{◌≡◌, refl}
-use native.Mathlib.Omega.{arith}
-use borrow.Author.Rules.{rules}
-use Rattle.wire.proofs.Stretches.{Written, none_written, written_length_lem}
-use Rattle.part_table_layout.specs.Table.{offset_bytes}
+use mathlib.Core.Path.{◌≡◌}
+use Rattle.wire.proofs.Stretches.{Written}
 use Rattle.assembler_layout.specs.Assembled.{end_before, offsets_from}
 use Rattle.assembler_layout.specs.Answer.{sized}
-use Rattle.assembler_layout.proofs.Sections.{StartFits, start_fits, end_next, offset_more, all_offsets}
 use Rattle.assembler.proofs.write_offsets.Given as goal
 
 abbrev pub invariant-loop-i : goal.invariant-loop-i

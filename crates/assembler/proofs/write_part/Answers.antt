@@ -6,7 +6,6 @@ use lib.ListN.{length, replicate, length-replicate}
 use Rattle.wire.specs.Number.{le32}
 use Rattle.wire.proofs.Stretches.{none_written, lent_length, written_more, written_copy, written_number, all_written}
 use Rattle.assembler_layout.proofs.Sections.{part_is}
-use borrow.Author.Rules.{rules}
 use Rattle.assembler.proofs.write_part.Goals as goal
 
 pub returns : goal.returns
