@@ -1,7 +1,6 @@
 use mathlib.Core.Path.{sym, ◌∙◌}
 use Rattle.places_layout.proofs.Views.{array_found, array_past, array_outside}
 use Rattle.places.proofs.Queries.{told}
-use borrow.Author.Rules.{rules}
 use Rattle.places.proofs.array.Goals as goal
 
 pub returns-then-reference-rows : goal.returns-then-reference-rows

@@ -1,6 +1,5 @@
 use native.Mathlib.Omega.{arith}
 use Rattle.places.proofs.Numbers.{product_fits}
-use borrow.Author.Rules.{rules}
 use Rattle.places.proofs.bytes_of.Goals as goal
 
 pub overflow_mul-result : goal.overflow_mul-result

@@ -4,7 +4,6 @@ use mathlib.Core.Path.{sym, ◌∙◌}
 use mathlib.Core.Logic.{inl, inr}
 use Rattle.places_layout.proofs.Calls.{no_element_lem}
 use Rattle.places.proofs.Queries.{told, element_found, element_lost}
-use borrow.Author.Rules.{rules}
 use Rattle.places.proofs.element.Goals as goal
 
 pub returns-then-p-lt1 : goal.returns-then-p-lt1

@@ -4,7 +4,6 @@ use mathlib.Core.Path.{sym, ◌∙◌}
 use mathlib.Core.Logic.{inl, inr}
 use Rattle.places_layout.proofs.Views.{no_element_array, element_array_read, element_array_outside}
 use Rattle.places.proofs.Queries.{told}
-use borrow.Author.Rules.{rules}
 use Rattle.places.proofs.element_array.Goals as goal
 
 pub returns-then-p-lt1 : goal.returns-then-p-lt1

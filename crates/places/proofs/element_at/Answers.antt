@@ -2,7 +2,6 @@ use Prim.Native.Nat.{◌/◌, ◌%◌}
 use Rattle.psv0_layout.specs.Answers.{element_of}
 use Rattle.psv0_layout.specs.Parts.{element_shown}
 use Rattle.psv0_layout.specs.declared.Field.TheVariants.{Set}
-use borrow.Author.Rules.{rules}
 use Rattle.places.proofs.element_at.Goals as goal
 
 pub returns : goal.returns

@@ -1,7 +1,6 @@
 use mathlib.Core.Path.{sym, ◌∙◌}
 use mathlib.Core.Logic.{inl, inr}
 use Rattle.places_layout.proofs.Views.{no_element_string, element_string_read, element_string_outside}
-use borrow.Author.Rules.{rules}
 use Rattle.places.proofs.element_string.Goals as goal
 
 pub returns-then-p-lt1 : goal.returns-then-p-lt1

@@ -1,8 +1,5 @@
-use native.Mathlib.Omega.{arith}
 use mathlib.Core.Path.{sym, ◌∙◌}
 use Rattle.places_layout.proofs.Views.{no_entry, entry_read, entry_outside}
-use Rattle.places.proofs.Queries.{told}
-use borrow.Author.Rules.{rules}
 use Rattle.places.proofs.entry_name.Goals as goal
 
 pub returns-then-p-lt3 : goal.returns-then-p-lt3

@@ -1,7 +1,6 @@
 use lib.Dec.{leb}
 use Rattle.psv0_layout.specs.Shown.{number}
 use Rattle.psv0_layout.proofs.Fields.{unset_within}
-use borrow.Author.Rules.{rules}
 use Rattle.places.proofs.from_if.Goals as goal
 
 pub returns-then-has : goal.returns-then-has

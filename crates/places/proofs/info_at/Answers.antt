@@ -2,7 +2,6 @@ use Rattle.psv0_layout.specs.Shown.{value}
 use Rattle.psv0_layout.specs.Answers.{info_of}
 use Rattle.places_layout.specs.Parts.{of_runtime}
 use Rattle.places_layout.specs.Read.{source_of, is_there, value_by}
-use borrow.Author.Rules.{rules}
 use Rattle.places.proofs.info_at.Goals as goal
 
 pub returns : goal.returns

@@ -1,5 +1,4 @@
-use borrow.Author.Rules.{rules}
 use Rattle.places.proofs.late_field.Goals as goal
 
 pub returns : goal.returns
-returns c = rw (← c.«u32-at».ensures) c.from_if.ensures
+returns c = rw (← c.u32_at.ensures) c.from_if.ensures

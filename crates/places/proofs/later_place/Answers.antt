@@ -1,5 +1,4 @@
 use borrow.Author.Tests.{le-leb, lt-leb}
-use borrow.Author.Rules.{rules}
 use Rattle.places.proofs.later_place.Goals as goal
 
 pub returns-then-er-lt1 : goal.returns-then-er-lt1

@@ -1,10 +1,8 @@
-use mathlib.Core.Path.{ap}
 use native.Mathlib.Omega.{arith}
 use Rattle.psv0_layout.specs.Answers.{field_of}
 use Rattle.psv0_layout.specs.Shown.{number}
 use Rattle.psv0_layout.proofs.Fields.{set_from}
 use Rattle.places_layout.proofs.Views.{lengths_read}
-use borrow.Author.Rules.{rules}
 use Rattle.places.proofs.lengths.Goals as goal
 
 pub returns : goal.returns

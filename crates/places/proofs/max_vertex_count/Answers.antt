@@ -1,4 +1,3 @@
-use borrow.Author.Rules.{rules}
 use Rattle.places.proofs.max_vertex_count.Goals as goal
 
 pub returns : goal.returns

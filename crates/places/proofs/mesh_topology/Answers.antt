@@ -1,4 +1,3 @@
-use borrow.Author.Rules.{rules}
 use Rattle.places.proofs.mesh_topology.Goals as goal
 
 pub returns : goal.returns

@@ -1,5 +1,4 @@
 use Rattle.places_layout.specs.Placed.{moved_by}
-use borrow.Author.Rules.{rules}
 use Rattle.places.proofs.moved.Goals as goal
 
 pub returns : goal.returns

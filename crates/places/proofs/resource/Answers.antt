@@ -3,7 +3,6 @@ use native.Mathlib.Omega.{arith}
 use mathlib.Core.Path.{sym, ◌∙◌}
 use Rattle.places_layout.proofs.Calls.{no_resource}
 use Rattle.places.proofs.Queries.{told, resource_long, resource_found, resource_lost}
-use borrow.Author.Rules.{rules}
 use Rattle.places.proofs.resource.Goals as goal
 
 pub returns-then-p-i : goal.returns-then-p-i

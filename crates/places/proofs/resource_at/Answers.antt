@@ -3,7 +3,6 @@ use native.Mathlib.Omega.{arith}
 use Rattle.psv0_layout.specs.Answers.{resource_of}
 use Rattle.psv0_layout.specs.declared.Field.TheVariants.{Set}
 use Rattle.psv0_layout.proofs.Records.{resource_early, resource_late}
-use borrow.Author.Rules.{rules}
 use Rattle.places.proofs.resource_at.Goals as goal
 
 pub returns : goal.returns

@@ -2,7 +2,6 @@ use lib.ListN.{length}
 use native.Mathlib.Omega.{arith}
 use mathlib.Core.Path.{sym, ◌∙◌}
 use Rattle.places.proofs.Queries.{told, info_found, info_lost}
-use borrow.Author.Rules.{rules}
 use Rattle.places.proofs.runtime_info.Goals as goal
 
 pub overflow_add-end : goal.overflow_add-end

@@ -1,10 +1,8 @@
-use Prim.Native.Nat.{ℕ}
 use mathlib.Core.Path.{◌≡◌}
 use native.Mathlib.Omega.{arith}
 use lib.ListN.{length, take}
 use lib.Seq.{take_all}
 use Rattle.places_layout.specs.Handed.{handed_by, start_by, length_by}
-use borrow.Author.Rules.{rules}
 use Rattle.places.proofs.section_span.Goals as goal
 
 pub returns-in-RuntimeRecord : goal.returns-in-RuntimeRecord
@@ -29,4 +27,8 @@ returns-in-ElementRecords c = rw c.in-ElementRecords.is (rw c.bytes_of-n-in-Elem
 
 pub returns-in-Masks : goal.returns-in-Masks
 unfolding handed_by start_by length_by
-returns-in-Masks c = let words = c.args.p.mask_words in let g = c.well-formed.1.0.1.1.1.1.1.1.1.1.1.1.1.1.1.1 in let n : length words ≡ 11 = search (rules, g) in let all : take 11 words ≡ words = take_all 11 words (omega arith) in rw c.in-Masks.is (rw (c.words_before-total.ensures.0, all) at c.later-in-Masks.ensures)
+returns-in-Masks c =
+    let words = c.args.p.mask_words in
+    let n : length words ≡ 11 = omega arith in
+    let all : take 11 words ≡ words = take_all 11 words (omega arith) in
+    rw c.in-Masks.is (rw (c.words_before-total.ensures.0, all) at c.later-in-Masks.ensures)

@@ -2,7 +2,6 @@ use lib.ListN.{length}
 use mathlib.Core.Path.{sym, ◌∙◌}
 use Rattle.places_layout.proofs.Views.{union_outside, union_read}
 use Rattle.places.proofs.Queries.{told, union_told}
-use borrow.Author.Rules.{rules}
 use Rattle.places.proofs.stage_union.Goals as goal
 
 pub returns-then-inside : goal.returns-then-inside

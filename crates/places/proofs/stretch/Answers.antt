@@ -1,7 +1,6 @@
 use borrow.Author.Tests.{leb-true}
 use mathlib.Core.Path.{sym, ◌∙◌}
 use Rattle.places_layout.proofs.Views.{stretch_inside, stretch_outside}
-use borrow.Author.Rules.{rules}
 use Rattle.places.proofs.stretch.Goals as goal
 
 pub returns-then-inside : goal.returns-then-inside

@@ -2,7 +2,6 @@ use lib.ListN.{length}
 use native.Mathlib.Omega.{arith}
 use mathlib.Core.Path.{sym, ◌∙◌}
 use Rattle.places.proofs.Queries.{told, name_fits, name_found, name_ill, name_outside}
-use borrow.Author.Rules.{rules}
 use Rattle.places.proofs.string.Goals as goal
 
 pub overflow_add-end : goal.overflow_add-end

@@ -1,4 +1,3 @@
-use borrow.Author.Rules.{rules}
 use Rattle.places.proofs.view_span.Goals as goal
 
 pub returns-in-StageUnion : goal.returns-in-StageUnion

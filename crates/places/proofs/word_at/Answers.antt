@@ -1,7 +1,6 @@
 use native.Mathlib.Omega.{arith}
 use Rattle.wire.proofs.Numbers.{past_end}
 use mathlib.Core.Path.{refl}
-use borrow.Author.Rules.{rules}
 use Rattle.places.proofs.word_at.Goals as goal
 
 pub overflow_cast-result : goal.overflow_cast-result

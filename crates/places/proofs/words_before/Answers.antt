@@ -1,9 +1,6 @@
-use Prim.Native.Nat.{◌*◌, ◌-◌, ◌≤◌}
 use mathlib.Core.Path.{◌≡◌, refl}
 use native.Mathlib.Numerals.{add-one}
 use native.Mathlib.Omega.{arith}
-use borrow.Author.Rules.{rules}
-use lib.ListN.{take}
 use Rattle.psv0_layout.specs.Field.{sum}
 use Rattle.psv0_layout.proofs.Masks.{sum_next}
 use Rattle.places.proofs.words_before.Goals as goal

@@ -1,11 +1,7 @@
 use Prim.Native.Nat.{◌*◌, ◌-◌, ◌≤◌}
-use mathlib.Core.Path.{◌≡◌, refl}
-use native.Mathlib.Numerals.{add-one}
-use native.Mathlib.Omega.{arith}
-use borrow.Author.Rules.{rules}
+use mathlib.Core.Path.{◌≡◌}
 use lib.ListN.{take}
 use Rattle.psv0_layout.specs.Field.{sum}
-use Rattle.psv0_layout.proofs.Masks.{sum_next}
 use Rattle.places.proofs.words_before.Given as goal
 
 abbrev pub invariant-loop-i : goal.invariant-loop-i
