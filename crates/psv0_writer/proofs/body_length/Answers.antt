@@ -1,5 +1,4 @@
 use native.Mathlib.Omega.{arith}
-use borrow.Author.Rules.{rules}
 use Rattle.psv0_writer_layout.specs.Stretch.{body_length}
 use Rattle.psv0_writer.proofs.body_length.Goals as goal
 

@@ -1,5 +1,4 @@
 use native.Mathlib.Omega.{arith}
-use borrow.Author.Rules.{rules}
 use Rattle.psv0_writer_layout.specs.Stretch.{head_length}
 use Rattle.psv0_writer.proofs.head_length.Goals as goal
 

@@ -1,6 +1,5 @@
 use mathlib.Core.Path.{◌∙◌, sym}
 use native.Mathlib.Omega.{arith}
-use borrow.Author.Rules.{rules}
 use Rattle.psv0_writer_layout.proofs.GivenRecords.{resource_size_lem}
 use Rattle.psv0_writer_layout.specs.Answer.{given}
 use Rattle.psv0_writer_layout.proofs.Checks.{lengths_wrong, head_decides, body_right}

@@ -1,7 +1,6 @@
 use mathlib.Core.Path.{◌∙◌, sym}
 use native.Mathlib.Omega.{arith}
 use lib.Seq.{length-take-le}
-use borrow.Author.Rules.{rules}
 use Rattle.psv0_writer_layout.specs.Answer.{given}
 use Rattle.psv0_writer_layout.proofs.Checks.{kept, len_told, within_limit, within_room, filled}
 use Rattle.psv0_writer.proofs.write.Goals as goal

@@ -2,7 +2,6 @@ use mathlib.Core.Path.{◌∙◌, sym}
 use native.Mathlib.Omega.{arith}
 use lib.Seq.{length-take-le}
 use lib.ListN.{length}
-use borrow.Author.Rules.{rules}
 use Rattle.wire.proofs.Stretches.{rest_copied, written_length_lem}
 use Rattle.psv0_writer_layout.specs.Stretch.{body_length}
 use Rattle.psv0_writer_layout.proofs.Sections.{counted_front, tables_written, elements_written, body_laid_lem}
@@ -36,11 +35,11 @@ pub write_counted-requires : goal.write_counted-requires
 unfolding body_length
 write_counted-requires c = length-take-le _ _ (omega arith)
 
-pub slice_bounds-write_counted-end : goal.slice_bounds-write_counted-end
+pub slice_bounds-write_counted-end-3 : goal.slice_bounds-write_counted-end-3
 unfolding body_length
-slice_bounds-write_counted-end c =
-    let p = c.before.before.before.before.args in
-    let w = counted_front p.out.now (length p.strings.now) p.strings.now c.write-counted.ensures in
+slice_bounds-write_counted-end-3 c =
+    let p = c.args in
+    let w = counted_front p.out.now (length p.strings.now) p.strings.now c.write_counted.ensures in
     omega (arith, written_length_lem w (omega arith))
 
 pub overflow_cast-indices : goal.overflow_cast-indices

@@ -1,5 +1,4 @@
 use native.Mathlib.Omega.{arith}
-use borrow.Author.Rules.{rules}
 use Rattle.wire.proofs.Stretches.{rest_copied}
 use Rattle.psv0_writer_layout.proofs.Sections.{number_written}
 use Rattle.psv0_writer.proofs.write_counted.Goals as goal

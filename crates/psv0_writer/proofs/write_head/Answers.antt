@@ -3,7 +3,6 @@ use native.Mathlib.Nat.{div-le_self}
 use native.Mathlib.Omega.{arith}
 use lib.Seq.{length-take-le}
 use lib.ListN.{length}
-use borrow.Author.Rules.{rules}
 use Rattle.wire.proofs.Stretches.{rest_length, rest_written, written_length_lem}
 use Rattle.psv0_writer_layout.proofs.GivenRecords.{resource_size_lem}
 use Rattle.psv0_writer_layout.specs.Stretch.{head_length}

@@ -1,6 +1,5 @@
 use mathlib.Core.Path.{◌∙◌}
 use native.Mathlib.Omega.{arith}
-use borrow.Author.Rules.{rules}
 use Rattle.psv0_writer_layout.proofs.Sections.{no_records, some_length, some_records}
 use Rattle.psv0_writer.proofs.write_records.Goals as goal
 

@@ -1,6 +1,5 @@
 use mathlib.Core.Path.{◌∙◌}
 use native.Mathlib.Omega.{arith}
-use borrow.Author.Rules.{rules}
 use Rattle.wire.proofs.Stretches.{rest_written}
 use Rattle.psv0_writer_layout.proofs.Sections.{number_written, records_length}
 use Rattle.psv0_writer.proofs.write_resources.Goals as goal

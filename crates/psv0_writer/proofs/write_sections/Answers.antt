@@ -1,7 +1,6 @@
 use mathlib.Core.Path.{◌≡◌, ◌∙◌, sym}
 use native.Mathlib.Omega.{arith}
 use lib.Seq.{length-take-le}
-use borrow.Author.Rules.{rules}
 use Rattle.wire.proofs.Stretches.{all_written, rest_length, rest_written, written_length_lem}
 use Rattle.psv0_writer_layout.proofs.Stretches.{body_length_lem}
 use Rattle.psv0_writer_layout.specs.Stretch.{head_length}

@@ -1,6 +1,5 @@
 use mathlib.Core.Path.{◌∙◌, sym, ap}
 use native.Mathlib.Omega.{arith}
-use borrow.Author.Rules.{rules}
 use Rattle.psv0_writer_layout.specs.Answer.{given, capped}
 use Rattle.psv0_writer_layout.proofs.Sections.{head_only_lem, head_and_body}
 use Rattle.psv0_writer.proofs.written_length.Goals as goal
