@@ -9,7 +9,6 @@ use native.Mathlib.Nat.{le_trans, mul-le-mul_left, eq-zero-or-pos}
 use lib.ListN.{length}
 use Rattle.constants.specs.Edition.{size_of}
 use Rattle.constants.proofs.Editions.{size_mono}
-use Rattle.wire.specs.Number.{u32_at}
 use Rattle.psv0_layout.specs.Layout.{Records, sections, edition_read_of}
 use Rattle.psv0_layout.proofs.Layouts.{WholeRecords, none, some, WholeBody}
 use Rattle.psv0_layout.proofs.Opened.{length_most, head_accepted, edition_asked, edition_size, body_accepted}

@@ -2,13 +2,10 @@
 -- Assumes nothing.
 use mathlib.Core.Path.{◌≡◌, sym, ap, ap₂, ◌∙◌}
 use mathlib.Core.List.{List}
-use Prim.Native.Nat.{ℕ, ◌+◌, ◌-◌}
-use native.Mathlib.Omega.{arith}
-use lib.ListN.{take, drop}
+use Prim.Native.Nat.{ℕ}
 use Rattle.constants.specs.Edition.{file_edition_of}
 use Rattle.wire.specs.Number.{u32_at}
 use Rattle.wire.specs.Verdict.{◌then◌}
-use Rattle.wire.specs.declared.Verdict.{Verdict}
 use Rattle.wire.specs.declared.Verdict.TheVariants.{Accepted, Refused}
 use Rattle.psv0_layout.specs.Handed.{handed}
 use Rattle.psv0_layout.specs.Judged.{opened}

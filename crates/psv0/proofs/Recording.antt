@@ -1,6 +1,6 @@
 -- The places of accepted data, as the record that an opening hands back.
 -- Assumes nothing.
-use mathlib.Core.Path.{◌≡◌, refl, sym, ap, ◌∙◌}
+use mathlib.Core.Path.{◌≡◌, sym, ap, ◌∙◌}
 use mathlib.Core.Bool.{true}
 use mathlib.Core.List.{List}
 use Prim.Native.Nat.{ℕ, ◌+◌, ◌≤◌}
@@ -8,10 +8,8 @@ use mathlib.Core.Logic.{⊎_elim}
 use native.Mathlib.Nat.{eq-zero-or-pos}
 use native.Mathlib.Omega.{arith}
 use lib.Dec.{leb}
-use lib.ListN.{length, get_or, take, drop}
+use lib.ListN.{length, take, drop}
 use borrow.Author.Tests.{le-leb}
-use Rattle.constants.specs.Edition.{size_of}
-use Rattle.wire.specs.Number.{u32_at}
 use Rattle.psv0_layout.specs.Field.{stage, mask_words_of}
 use Rattle.psv0_layout.specs.Layout.{guide_of, edition_read_of}
 use Rattle.psv0_layout.proofs.Positions.{guide_seen, runtime_at}

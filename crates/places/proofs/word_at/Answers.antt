@@ -4,10 +4,10 @@ use mathlib.Core.Path.{refl}
 use Rattle.places.proofs.word_at.Goals as goal
 
 pub overflow_cast-result : goal.overflow_cast-result
-overflow_cast-result c = record { fits = omega (arith, (c.shared_slice_known-1.given c.args.m).fits) }
+overflow_cast-result c = record { fits = omega (arith, (c.type_inv.words c.args.m).fits) }
 
 pub returns-then-m-words : goal.returns-then-m-words
-returns-then-m-words c = (refl, (c.shared_slice_known-1.given c.args.m).fits)
+returns-then-m-words c = (refl, (c.type_inv.words c.args.m).fits)
 
 pub returns : goal.returns
 returns c = (past_end c.args.words.now c.args.m c.if-m-words.false, omega arith)

@@ -1,5 +1,4 @@
 use Rattle.psv0.proofs.Openings.{opening_accepted, opening_refused}
-use borrow.Author.Rules.{rules}
 use Rattle.psv0.proofs.open.Goals as goal
 
 pub returns-in-Refused : goal.returns-in-Refused

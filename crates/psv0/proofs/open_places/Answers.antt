@@ -1,5 +1,4 @@
 use Rattle.psv0.proofs.Openings.{reading, places_accepted, places_refused}
-use borrow.Author.Rules.{rules}
 use Rattle.psv0.proofs.open_places.Goals as goal
 
 pub returns-in-Refused : goal.returns-in-Refused

@@ -2,7 +2,6 @@ use mathlib.Core.List.{[], ◌∷◌}
 use Rattle.psv0_layout.specs.Field.{mask_words_of}
 use Rattle.psv0.proofs.Accepted.{edition_small, resources_small, resource_count_small, resource_size_small, strings_small_lem, string_bytes_small, indices_small_lem, index_count_small, elements_small, element_count_small, element_size_small, masks_small}
 use Rattle.psv0.proofs.Recording.{pos, head_record, guide_is, guide_fits, whole_record}
-use borrow.Author.Rules.{rules}
 use Rattle.psv0.proofs.record_of.Goals as goal
 
 pub overflow_cast-result : goal.overflow_cast-result

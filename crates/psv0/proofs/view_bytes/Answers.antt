@@ -1,5 +1,4 @@
 use Rattle.psv0_layout.proofs.Spans.{span_slice}
-use borrow.Author.Rules.{rules}
 use Rattle.psv0.proofs.view_bytes.Goals as goal
 
 pub returns : goal.returns
