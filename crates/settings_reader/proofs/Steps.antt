@@ -1,22 +1,20 @@
 -- The steps of the walk at the numbers that the code holds.
 -- Assumes nothing.
-use Prim.Native.Nat.{ℕ, zero, suc, ◌+◌, ◌-◌, ◌*◌, ◌<◌, ◌≤◌}
+use Prim.Native.Nat.{ℕ, suc, ◌+◌, ◌-◌, ◌*◌, ◌<◌, ◌≤◌}
 use mathlib.Core.Path.{◌≡◌, refl, sym, ◌∙◌, ap}
-use mathlib.Core.Bool.{Bool, true, false}
-use mathlib.Core.List.{List, [], ◌∷◌}
+use mathlib.Core.Bool.{true, false}
+use mathlib.Core.List.{List, ◌∷◌}
 use native.Mathlib.Numerals.{add-one}
 use native.Mathlib.Omega.{arith}
-use lib.Dec.{ltb, leb, eqb}
 use lib.ListN.{length, get_or, drop, drop_of_length-le, length-drop}
 use lib.Seq.{drop-cons, drop-drop}
 use borrow.Author.Tests.{lt-ltb, le-ltb, eq-eqb, ne_eqb, le-leb, lt-leb}
-use Rattle.wire.specs.Choice.{choose}
 use Rattle.wire.specs.Verdict.{◌then◌, check}
 use Rattle.wire.specs.declared.Verdict.{Verdict}
 use Rattle.wire.specs.declared.Verdict.TheVariants.{Accepted, Refused}
 use Rattle.settings_layout.specs.declared.Number.{Number}
 use Rattle.settings_layout.specs.declared.Number.TheVariants.{Good, Bad}
-use Rattle.settings_layout.specs.Groups.{grouped, further, number, value_if, size_if, value_of, size_of, after}
+use Rattle.settings_layout.specs.Groups.{grouped, further, number, size_if, value_of, size_of, after}
 use Rattle.settings_layout.specs.Rules.{row, no_row, key_known, in_range}
 use Rattle.settings_layout.specs.Shown.{alone_if, row_alone_of}
 use Rattle.settings_layout.specs.declared.RowAlone.{RowAlone}

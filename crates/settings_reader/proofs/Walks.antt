@@ -2,12 +2,12 @@
 -- Assumes nothing.
 use Prim.Native.Nat.{ℕ, zero, suc, ◌+◌, ◌-◌, ◌<◌, ◌≤◌}
 use mathlib.Core.Path.{◌≡◌, refl, sym, ◌∙◌, ap}
-use mathlib.Core.Bool.{Bool, true, false}
+use mathlib.Core.Bool.{Bool, false}
 use mathlib.Core.List.{List, [], ◌∷◌}
 use native.Mathlib.Nat.{zero-add}
 use native.Mathlib.Numerals.{add-one}
 use native.Mathlib.Omega.{arith}
-use lib.Dec.{leb, ltb, eqb}
+use lib.Dec.{eqb}
 use lib.ListN.{length, drop, get_or, length-drop}
 use lib.Seq.{drop-drop}
 use borrow.Author.Tests.{le-leb, lt-leb, eq-eqb, ne_eqb, lt-ltb, le-ltb}
@@ -17,7 +17,7 @@ use Rattle.wire.specs.declared.Verdict.{Verdict}
 use Rattle.wire.specs.declared.Verdict.TheVariants.{Accepted, Refused}
 use Rattle.settings_layout.specs.File.{number_if, number_judged, row_of, row_size, row_end, row_judged, rows_judged, rows_from, judged, rows_of}
 use Rattle.settings_layout.specs.Groups.{number, value_of, size_of, after}
-use Rattle.settings_layout.specs.Rules.{row, no_row, tells, latest, setting_at}
+use Rattle.settings_layout.specs.Rules.{no_row, tells, latest, setting_at}
 use Rattle.settings_layout.specs.Shown.{settings_if, settings_of, row_if, row_answer_of, setting_if, setting_answer_of, alone_if, row_alone_of}
 use Rattle.settings_layout.specs.declared.Number.{Number}
 use Rattle.settings_layout.specs.declared.Number.TheVariants.{Good, Bad}
@@ -43,7 +43,8 @@ picked zero j r (x ∷ l) =
     passed (j + 0) (suc j) _ l (omega arith) ∙ rw (eq-eqb j (j + 0) e)
 picked (suc n) j r (x ∷ l) =
     let e : j + suc n ≡ suc j + n = omega arith in
-    rw (ne_eqb j (j + suc n) (omega arith), e) (picked n (suc j) r l)
+    let f : eqb j (j + suc n) ≡ false = ne_eqb j (j + suc n) (omega arith) in
+    ap (λ (b : Bool). row_from (j + suc n) (suc j) (choose b x r) l) f ∙ ap (λ (m : ℕ). row_from m (suc j) r l) e ∙ picked n (suc j) r l
 
 pub row_picked : (i : ℕ) (l : List Row) → row_from i 0 no_row l ≡ get_or l i no_row
 row_picked i l = ap (λ (n : ℕ). row_from n 0 no_row l) (sym (zero-add i)) ∙ picked i 0 no_row l

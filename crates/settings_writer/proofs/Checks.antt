@@ -1,11 +1,11 @@
 -- The writer's checks at the numbers that the code holds.
 -- Assumes nothing.
-use Prim.Native.Nat.{ℕ, zero, suc, ◌+◌, ◌-◌, ◌*◌, ◌/◌, ◌%◌, ◌<◌, ◌≤◌}
-use mathlib.Core.Path.{◌≡◌, refl, sym, ◌∙◌, ap}
-use mathlib.Core.Bool.{Bool, true, false}
-use mathlib.Core.List.{List, [], ◌∷◌, ◌++◌}
+use Prim.Native.Nat.{ℕ, suc, ◌+◌, ◌*◌, ◌/◌, ◌%◌, ◌<◌, ◌≤◌}
+use mathlib.Core.Path.{◌≡◌, refl, ◌∙◌}
+use mathlib.Core.Bool.{true, false}
+use mathlib.Core.List.{List, [], ◌∷◌}
 use native.Mathlib.Omega.{arith}
-use lib.Dec.{leb, eqb}
+use lib.Dec.{leb}
 use lib.ListN.{length, get_or, drop, drop_of_length-le}
 use lib.Seq.{drop-cons}
 use borrow.Author.Tests.{lt-ltb, le-ltb, le-leb, lt-leb, eq-eqb, ne_eqb}
@@ -17,7 +17,7 @@ use Rattle.settings_layout.specs.declared.SettingsWritten.{SettingsWritten}
 use Rattle.settings_layout.specs.Groups.{groups, in_groups}
 use Rattle.settings_layout.specs.Rules.{row, key_known, in_range}
 use Rattle.settings_layout.specs.File.{judged}
-use Rattle.settings_layout.specs.Laid.{row_laid, rows_laid, laid}
+use Rattle.settings_layout.specs.Laid.{rows_laid}
 use Rattle.settings_layout.specs.Given.{rows_given, written, writer_judged, answer_to}
 use Rattle.settings_layout.specs.Checked.{width, row_width, row_given, all_given}
 use Rattle.settings_layout.proofs.GivenNumbers.{width_small, rows_count, given_fit, judged_large, laid_length, row_length}

@@ -1,14 +1,14 @@
 -- What a call of the writer left in the output: its result, read back, and beside and beyond it the bytes that were there.
 -- Assumes nothing.
 use Prim.Native.Nat.{ℕ}
-use mathlib.Core.Path.{◌≡◌, sym, ◌∙◌, ap}
+use mathlib.Core.Path.{◌≡◌, sym, ◌∙◌}
 use mathlib.Core.List.{List, ◌++◌}
 use lib.ListN.{length, take, drop}
 use lib.Seq.{take_at, drop_at}
 use Rattle.wire.specs.declared.Verdict.TheVariants.{Accepted, Refused}
 use Rattle.settings_layout.specs.declared.SettingsWritten.{SettingsWritten}
 use Rattle.settings_layout.specs.File.{judged, rows_of}
-use Rattle.settings_layout.specs.Given.{numbers_of, written, writer_judged, answer_to, output_if, Wrote}
+use Rattle.settings_layout.specs.Given.{numbers_of, written, answer_to, output_if, Wrote}
 use Rattle.settings_layout.proofs.GivenRows.{given_back}
 use Rattle.settings_writer.proofs.Writes.{kept, accepted}
 

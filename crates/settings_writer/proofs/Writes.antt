@@ -1,20 +1,18 @@
 -- What a call of the writer leaves in the output.
 -- Assumes nothing.
-use Prim.Native.Nat.{ℕ, ◌+◌, ◌/◌, ◌%◌, ◌<◌, ◌≤◌}
+use Prim.Native.Nat.{ℕ, ◌+◌, ◌/◌, ◌≤◌}
 use mathlib.Core.Path.{◌≡◌, refl, sym, ◌∙◌, ap}
-use mathlib.Core.List.{List, [], ◌∷◌, ◌++◌}
+use mathlib.Core.List.{List, ◌++◌}
 use native.Mathlib.Omega.{arith}
-use lib.ListN.{length, drop, length-append}
+use lib.ListN.{length, length-append}
 use lib.Seq.{sets, length-sets}
 use borrow.Author.Tests.{leb-true, eqb-true}
-use Rattle.wire.specs.Verdict.{◌then◌, check}
 use Rattle.wire.specs.declared.Verdict.{Verdict}
 use Rattle.wire.specs.declared.Verdict.TheVariants.{Accepted, Refused}
 use Rattle.wire.proofs.Verdicts.{then_accepted, check_then, check_accepted}
 use Rattle.settings_layout.specs.declared.SettingsWritten.{SettingsWritten}
 use Rattle.settings_layout.specs.Groups.{groups, in_groups}
-use Rattle.settings_layout.specs.File.{judged}
-use Rattle.settings_layout.specs.Laid.{rows_laid, laid}
+use Rattle.settings_layout.specs.Laid.{laid}
 use Rattle.settings_layout.specs.Given.{rows_given, written, writer_judged, answer_to, output_if}
 use Rattle.settings_layout.specs.Checked.{numbers_laid}
 use Rattle.settings_layout.proofs.GivenNumbers.{rows_flat, rows_count}

@@ -1,4 +1,3 @@
-use borrow.Author.Rules.{rules}
 use Rattle.lines.specs.Line.{accepted_line}
 use Rattle.lines.proofs.accepted.Goals as goal
 

@@ -1,5 +1,4 @@
 use native.Mathlib.Omega.{arith}
-use borrow.Author.Rules.{rules}
 use Rattle.lines.proofs.Lines.{in_range_lem, above, below}
 use Rattle.lines.proofs.printable.Goals as goal
 

@@ -1,19 +1,18 @@
 use mathlib.Core.Path.{◌∙◌, ap}
 use native.Mathlib.Omega.{arith}
-use borrow.Author.Rules.{rules}
 use Rattle.wire.specs.Number.{placed}
 use Rattle.lines.proofs.Numbers.{spelled, spelled_length, spelled_short}
 use Rattle.lines.proofs.put_number.Goals as goal
 
 pub returns : goal.returns
 returns c =
-    let d = c.decimal-k.ensures.1 in
-    let l = spelled_length _ _ _ d.0 d.1 in
-    let k = spelled_short _ _ _ d.0 d.1 (omega arith) in
-    record { out_after = c.put.ensures ∙ ap (placed _ _) (spelled _ _ _ d.0 d.1); value = omega arith; n_len_bound = omega arith; }
+    let d = c.decimal-k.ensures in
+    let l = spelled_length _ _ _ d.len d.digits in
+    let k = spelled_short _ _ _ d.len d.digits (omega arith) in
+    record { out_after = c.put.ensures ∙ ap (placed _ _) (spelled _ _ _ d.len d.digits); value = omega arith; n_len_bound = omega arith }
 
 pub overflow_add-result : goal.overflow_add-result
 overflow_add-result c =
-    let d = c.decimal-k.ensures.1 in
-    let k = spelled_short _ _ _ d.0 d.1 (omega arith) in
+    let d = c.decimal-k.ensures in
+    let k = spelled_short _ _ _ d.len d.digits (omega arith) in
     omega arith

@@ -1,6 +1,5 @@
 use mathlib.Core.Path.{refl, sym}
 use native.Mathlib.Omega.{arith}
-use borrow.Author.Rules.{rules}
 use Rattle.lines.specs.Line.{numbers}
 use Rattle.lines.proofs.Lines.{three_put, numbers_end, numbers_short}
 use Rattle.lines.proofs.put_numbers.Goals as goal
@@ -8,9 +7,8 @@ use Rattle.lines.proofs.put_numbers.Goals as goal
 pub returns : goal.returns
 unfolding numbers
 returns c =
-    let space-put = c in
-    let first = space-put.before.before.before.before.before.put-number.ensures in
+    let first = c.put_number-end.ensures in
     let second = c.put_number.ensures in
-    let e = first.1.0 in
-    let k = first.1.1 in
-    let m = second.1.1 in record { out_after = three_put _ _ _ _ _ first.0 space-put.put.ensures second.0 (sym e) refl (omega arith); value = numbers_end _ _ _ e second.1.0; n_len_bound = numbers_short _ _ k m; }
+    let e = first.value in
+    let k = first.n_len_bound in
+    let m = second.n_len_bound in record { out_after = three_put _ _ _ _ _ first.out_after c.put.ensures second.out_after (sym e) refl (omega arith); value = numbers_end _ _ _ e second.value; n_len_bound = numbers_short _ _ k m }

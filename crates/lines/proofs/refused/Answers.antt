@@ -1,4 +1,3 @@
-use borrow.Author.Rules.{rules}
 use Rattle.lines.specs.Line.{refused_line}
 use Rattle.lines.proofs.refused.Goals as goal
 

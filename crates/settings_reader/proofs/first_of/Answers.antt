@@ -1,5 +1,4 @@
 use Rattle.settings_reader.proofs.Walks.{count_good, count_none}
-use borrow.Author.Rules.{rules}
 use Rattle.settings_reader.proofs.first_of.Goals as goal
 
 pub returns-in-Good : goal.returns-in-Good

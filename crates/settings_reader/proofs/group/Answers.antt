@@ -1,8 +1,5 @@
-use mathlib.Core.Path.{◌≡◌, ap}
 use native.Mathlib.Omega.{arith}
-use Rattle.settings_layout.specs.Groups.{size_if}
 use Rattle.settings_reader.proofs.Steps.{group_one, group_large, group_bad, group_size}
-use borrow.Author.Rules.{rules}
 use Rattle.settings_reader.proofs.group.Goals as goal
 
 pub overflow_add-result : goal.overflow_add-result

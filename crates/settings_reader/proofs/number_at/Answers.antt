@@ -1,6 +1,5 @@
 use native.Mathlib.Omega.{arith}
 use Rattle.settings_reader.proofs.Steps.{size_short, number_ended, number_one, number_more}
-use borrow.Author.Rules.{rules}
 use Rattle.settings_reader.proofs.number_at.Goals as goal
 
 pub returns-then-d-at : goal.returns-then-d-at

@@ -1,5 +1,4 @@
 use Rattle.settings_reader.proofs.Walks.{read_refused, read_accepted}
-use borrow.Author.Rules.{rules}
 use Rattle.settings_reader.proofs.read.Goals as goal
 
 pub returns-in-Refused : goal.returns-in-Refused

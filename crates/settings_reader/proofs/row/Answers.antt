@@ -1,6 +1,5 @@
 use mathlib.Core.Path.{◌∙◌}
 use Rattle.settings_reader.proofs.Walks.{row_refused, row_none, row_there}
-use borrow.Author.Rules.{rules}
 use Rattle.settings_reader.proofs.row.Goals as goal
 
 pub returns-then-count_of-i : goal.returns-then-count_of-i

@@ -1,5 +1,4 @@
 use Rattle.settings_reader.proofs.Walks.{setting_told}
-use borrow.Author.Rules.{rules}
 use Rattle.settings_reader.proofs.value.Goals as goal
 
 pub returns : goal.returns

@@ -1,8 +1,5 @@
 use Prim.Native.Nat.{◌-◌}
-use borrow.Author.Rules.{rules}
-use mathlib.Core.Path.{◌∙◌}
-use native.Mathlib.Omega.{arith}
-use Rattle.settings_reader.proofs.Walks.{Walking, walk_begin, walk_stop, walk_more, walk_over, walk_done}
+use Rattle.settings_reader.proofs.Walks.{Walking}
 use Rattle.settings_reader.proofs.walk.Given as goal
 
 abbrev pub invariant-loop-done : goal.invariant-loop-done

@@ -2,7 +2,6 @@ use mathlib.Core.Path.{sym, ◌∙◌}
 use native.Mathlib.Omega.{arith}
 use Rattle.settings_reader.proofs.Steps.{number_ends}
 use Rattle.settings_reader.proofs.Walks.{no_count, many_rows, few_rows}
-use borrow.Author.Rules.{rules}
 use Rattle.settings_reader.proofs.walk_file.Goals as goal
 
 pub returns-then-count-gt512 : goal.returns-then-count-gt512

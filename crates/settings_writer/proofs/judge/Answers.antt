@@ -1,7 +1,6 @@
 use mathlib.Core.Path.{◌∙◌}
 use native.Mathlib.Omega.{arith}
 use Rattle.settings_writer.proofs.Checks.{not_whole, large_count, many_given, few_given}
-use borrow.Author.Rules.{rules}
 use Rattle.settings_writer.proofs.judge.Goals as goal
 
 pub returns-then-n-ne0 : goal.returns-then-n-ne0
@@ -14,4 +13,4 @@ pub returns-then-count-gt512 : goal.returns-then-count-gt512
 returns-then-count-gt512 c = c.refused-then-count-gt512.ensures ∙ many_given c.args.rows.now c.args.room c.if-n-ne0.false (λ i. omega (arith, c.shared_slice_known-1.given i)) c.if-count-gt4294967295.false c.if-count-gt512.true
 
 pub returns : goal.returns
-returns c = few_given c.args.rows.now c.args.room c.if-n-ne0.false (λ i. omega (arith, c.shared_slice_known-1.given i)) c.if-count-gt512.false c.width_of_lem.ensures.0 c.judge_rows.ensures
+returns c = few_given c.args.rows.now c.args.room c.if-n-ne0.false (λ i. omega (arith, c.shared_slice_known-1.given i)) c.if-count-gt512.false c.width_of.ensures.0 c.judge_rows.ensures

@@ -1,9 +1,8 @@
-use Prim.Native.Nat.{◌+◌, ◌-◌, ◌<◌}
+use Prim.Native.Nat.{◌+◌, ◌<◌}
 use mathlib.Core.Path.{◌∙◌}
 use native.Mathlib.Omega.{arith}
-use borrow.Author.Rules.{rules}
 use lib.ListN.{length}
-use Rattle.settings_writer.proofs.Checks.{Judging, judging_begin, judging_stop, judging_more, judging_full, judging_done}
+use Rattle.settings_writer.proofs.Checks.{judging_begin, judging_stop, judging_more, judging_full, judging_done}
 use Rattle.settings_writer.proofs.judge_rows.Goals as goal
 
 pub loop-i-init : goal.loop-i-init
@@ -26,9 +25,6 @@ row_given-requires c = omega (arith, c.loop-i.invariant.low, c.requires.1, c.loo
 
 pub returns-in-Wrong : goal.returns-in-Wrong
 returns-in-Wrong c = let i2 : c.loop-i.i + 2 < length c.args.rows.now = omega (arith, c.loop-i.invariant.whole, c.loop-i.invariant.inside, c.requires.0, c.loop-i-test.true) in c.refused.ensures ∙ judging_stop c.args.rows.now c.args.from c.loop-i.at c.loop-i.last c.loop-i.i c.loop-i.invariant i2 c.row_given.ensures _ _ c.in-Wrong.is _ _
-
-pub overflow_add-i : goal.overflow_add-i
-overflow_add-i c = omega (arith, c.before.before.before.before.before.before.requires.1, c.before.before.before.loop-test.true)
 
 pub loop-i-smaller : goal.loop-i-smaller
 loop-i-smaller c = let i2 : c.loop-i.i + 2 < length c.args.rows.now = omega (arith, c.loop-i.invariant.whole, c.loop-i.invariant.inside, c.requires.0, c.loop-i-test.true) in omega (arith, c.loop-i-test.true)

@@ -1,7 +1,5 @@
 use Rattle.settings_writer.proofs.Writes.{kept, passed, room_left, filled}
-use mathlib.Core.Path.{◌∙◌}
 use native.Mathlib.Omega.{arith}
-use borrow.Author.Rules.{rules}
 use Rattle.settings_writer.proofs.write.Goals as goal
 
 pub overflow_cast-count : goal.overflow_cast-count
