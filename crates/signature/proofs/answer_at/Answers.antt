@@ -1,5 +1,4 @@
 use Rattle.signature_layout.proofs.Steps.{answer_good, answer_is}
-use borrow.Author.Rules.{rules}
 use Rattle.signature.proofs.answer_at.Goals as goal
 
 pub name_at-name-requires : goal.name_at-name-requires

@@ -1,7 +1,6 @@
 use mathlib.Core.Path.{◌∙◌}
 use native.Mathlib.Omega.{arith}
 use Rattle.signature_layout.proofs.Signatures.{alone_43, alone_26, alone_44, alone_refused, alone_shown, alone_good}
-use borrow.Author.Rules.{rules}
 use Rattle.signature.proofs.element_alone.Goals as goal
 
 pub returns-then-len-lt8 : goal.returns-then-len-lt8
@@ -16,12 +15,11 @@ returns-then-len-u32_at c =
     c.refused-then-len-u32_at.ensures ∙ alone_44 _ _ c.if-len-lt8.false c.u32_at.ensures c.if-u32_at-i.false c.u32_at-2.ensures c.if-len-u32_at.true
 
 pub answer_at-requires : goal.answer_at-requires
-answer_at-requires c =
-    (
-      omega (arith, c.u32_at-2.ensures, c.if-len-u32_at.false),
-      alone_good _ _ c.if-len-lt8.false c.u32_at.ensures c.if-u32_at-i.false c.u32_at-2.ensures c.if-len-u32_at.false c.judge_name-v.ensures
-          c.in-Accepted.is,
-    )
+answer_at-requires c = (
+  omega (arith, c.u32_at-2.ensures, c.if-len-u32_at.false),
+  alone_good _ _ c.if-len-lt8.false c.u32_at.ensures c.if-u32_at-i.false c.u32_at-2.ensures c.if-len-u32_at.false c.judge_name-v.ensures
+      c.in-Accepted.is,
+)
 
 pub returns-in-Refused : goal.returns-in-Refused
 returns-in-Refused c =

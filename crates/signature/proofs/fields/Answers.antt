@@ -1,5 +1,4 @@
 use Rattle.signature_layout.specs.Signature.{fields_of}
-use borrow.Author.Rules.{rules}
 use Rattle.signature.proofs.fields.Goals as goal
 
 pub returns : goal.returns

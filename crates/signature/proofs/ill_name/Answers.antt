@@ -2,7 +2,6 @@ use Rattle.utf8.specs.Referred.{passes, first_ill}
 use Rattle.signature_layout.specs.Signature.{name_good}
 use Rattle.signature_layout.proofs.Signatures.{decided_none, decided_plain, decided_search}
 use Rattle.psv0_layout.proofs.References.{whole_slice}
-use borrow.Author.Rules.{rules}
 use Rattle.signature.proofs.ill_name.Goals as goal
 
 pub returns-then-plain_from : goal.returns-then-plain_from

@@ -1,6 +1,5 @@
 use mathlib.Core.Path.{◌∙◌}
 use Rattle.signature_layout.proofs.Signatures.{short_header, past_end, names_decide}
-use borrow.Author.Rules.{rules}
 use Rattle.signature.proofs.judge.Goals as goal
 
 pub returns-then-len-lt8 : goal.returns-then-len-lt8

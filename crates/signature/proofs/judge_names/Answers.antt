@@ -1,31 +1,17 @@
-use Prim.Native.Nat.{◌+◌, ◌-◌, ◌≤◌}
-use mathlib.Core.Path.{◌≡◌, sym}
+use mathlib.Core.Path.{sym}
 use native.Mathlib.Omega.{arith}
-use borrow.Author.Rules.{rules}
-use lib.ListN.{length}
-use Rattle.wire.specs.Verdict.{each}
-use Rattle.wire.specs.declared.Verdict.TheVariants.{Accepted}
 use Rattle.wire.proofs.Verdicts.{each_none, each_done}
-use Rattle.signature_layout.specs.Signature.{start_of, name_judged}
 use Rattle.signature_layout.proofs.Signatures.{cut_name, ill_name, good_name}
 use Rattle.signature.proofs.judge_names.Goals as goal
-
--- element i ends inside
-inside : (n : tie.In-loop invariant-loop decreases-loop)
-    → n.before.loop.at + 32 ≤ length n.before.before.before.before.before.before.before.args.d.now
-inside n =
-    let l = n.before.loop in
-    let k = n.before.before.before in
-    omega (arith, l.invariant.1, k.u32-at.ensures, n.loop-test.true, k.before.before.before.before.requires)
 
 pub loop-i-init : goal.loop-i-init
 loop-i-init c = (omega arith, omega (arith, c.u32_at-at.ensures), each_none _, omega arith)
 
 pub overflow_add-next : goal.overflow_add-next
-overflow_add-next c = omega (arith, inside c)
+overflow_add-next c = omega (arith, c.loop-i.invariant.1, c.u32_at-count.ensures, c.u32_at-at.ensures, c.loop-i-test.true, c.requires)
 
 pub slice_bounds-u32_at-end : goal.slice_bounds-u32_at-end
-slice_bounds-u32_at-end c = inside c
+slice_bounds-u32_at-end c = omega (arith, c.loop-i.invariant.1, c.u32_at-count.ensures, c.u32_at-at.ensures, c.loop-i-test.true, c.requires)
 
 pub returns-then-is_cut : goal.returns-then-is_cut
 returns-then-is_cut c =
@@ -41,8 +27,7 @@ returns-then-i-ill c =
 
 pub loop-i-preserved : goal.loop-i-preserved
 loop-i-preserved c =
-    let l = c.loop-i in
-    (
+    let l = c.loop-i in (
       omega (arith, c.loop-i-test.true),
       omega (arith, l.invariant.1),
       good_name _ _ l.invariant.1 c.u32_at-o.ensures c.end_of-end.ensures c.ill_name-ill.ensures l.invariant.2

@@ -1,13 +1,8 @@
-use Prim.Native.Nat.{◌+◌, ◌-◌, ◌≤◌}
-use mathlib.Core.Path.{◌≡◌, sym}
-use native.Mathlib.Omega.{arith}
-use borrow.Author.Rules.{rules}
-use lib.ListN.{length}
+use Prim.Native.Nat.{◌-◌, ◌≤◌}
+use mathlib.Core.Path.{◌≡◌}
 use Rattle.wire.specs.Verdict.{each}
 use Rattle.wire.specs.declared.Verdict.TheVariants.{Accepted}
-use Rattle.wire.proofs.Verdicts.{each_none, each_done}
 use Rattle.signature_layout.specs.Signature.{start_of, name_judged}
-use Rattle.signature_layout.proofs.Signatures.{cut_name, ill_name, good_name}
 use Rattle.signature.proofs.judge_names.Given as goal
 
 abbrev pub invariant-loop-i : goal.invariant-loop-i

@@ -1,11 +1,7 @@
-use Prim.Native.Nat.{◌+◌, ◌-◌, ◌≤◌}
+use Prim.Native.Nat.{◌-◌, ◌≤◌}
 use mathlib.Core.Path.{◌≡◌}
-use native.Mathlib.Omega.{arith}
-use borrow.Author.Rules.{rules}
-use lib.ListN.{length}
 use Rattle.signature_layout.specs.Named.{NamesFrom}
 use Rattle.signature_layout.specs.Signature.{start_of}
-use Rattle.signature_layout.proofs.Signatures.{names_none, names_more}
 use Rattle.signature.proofs.least_name.Given as goal
 
 abbrev pub invariant-loop-i : goal.invariant-loop-i

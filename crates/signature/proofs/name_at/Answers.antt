@@ -1,6 +1,5 @@
 use native.Mathlib.Omega.{arith}
 use Rattle.signature_layout.proofs.Steps.{unset_at, set_inside, set_at}
-use borrow.Author.Rules.{rules}
 use Rattle.signature.proofs.name_at.Goals as goal
 
 pub returns-then-o-eq0 : goal.returns-then-o-eq0

@@ -1,6 +1,5 @@
 use native.Mathlib.Omega.{arith}
 use Rattle.signature_layout.proofs.Steps.{bytes_outside, bytes_inside}
-use borrow.Author.Rules.{rules}
 use Rattle.signature.proofs.name_bytes.Goals as goal
 
 pub returns-then-len-start : goal.returns-then-len-start

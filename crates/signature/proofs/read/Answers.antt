@@ -1,5 +1,4 @@
 use Rattle.signature_layout.proofs.Steps.{none_read, count_read}
-use borrow.Author.Rules.{rules}
 use Rattle.signature.proofs.read.Goals as goal
 
 pub returns-in-Refused : goal.returns-in-Refused

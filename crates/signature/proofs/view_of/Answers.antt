@@ -1,6 +1,5 @@
 use mathlib.Core.Path.{◌∙◌}
 use Rattle.signature_layout.proofs.Steps.{view_refused, view_unset, view_set}
-use borrow.Author.Rules.{rules}
 use Rattle.signature.proofs.view_of.Goals as goal
 
 pub returns-in-Refused : goal.returns-in-Refused
