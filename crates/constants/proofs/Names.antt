@@ -1,7 +1,7 @@
 -- The rule of the table of names, proved once by a test that is computed over the whole table.
 -- Assumes nothing.
 use mathlib.Core.Path.{◌≡◌, refl}
-use mathlib.Core.Bool.{Bool, true, false, ◌&&◌}
+use mathlib.Core.Bool.{Bool, true, ◌&&◌}
 use Prim.Native.Nat.{ℕ, zero, suc, ◌<◌}
 use native.Mathlib.Omega.{arith}
 use native.Mathlib.Nat.{eq-or-lt_of_le, le_of_suc-le-suc}
@@ -11,7 +11,7 @@ use borrow.Author.Tests.{eqb-true}
 use Rattle.wire.specs.Number.{u32_at}
 use Rattle.wire.specs.Search.{first}
 use Rattle.wire.proofs.Choices.{both}
-use Rattle.constants.specs.Name.{part_names, name_number, is_name}
+use Rattle.constants.specs.Name.{name_number, is_name}
 
 -- a test is true at each number below n
 every : (ℕ → Bool) → ℕ → Bool

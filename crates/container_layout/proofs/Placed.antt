@@ -1,10 +1,9 @@
 -- "For the bytes it was made from, each answer equals the fresh one": of whole containers.
 -- Assumes nothing.
-use Prim.Native.Nat.{ℕ, ◌+◌, ◌≤◌}
+use Prim.Native.Nat.{ℕ}
 use mathlib.Core.Path.{◌≡◌, refl, sym, ◌∙◌}
 use mathlib.Core.Bool.{true, true≢false}
 use mathlib.Core.List.{List}
-use lib.ListN.{length, take, drop}
 use Rattle.wire.specs.declared.Verdict.TheVariants.{Accepted}
 use Rattle.part_table_layout.specs.Lookup.{find}
 use Rattle.part_table_layout.specs.Table.{data_at, table_judged}
@@ -13,13 +12,12 @@ use Rattle.part_table_layout.specs.declared.Found.TheVariants.{At, Nothing}
 use Rattle.part_table_layout.proofs.Accepted.{part_inside, data_length}
 use Rattle.part_table_layout.proofs.Lookups.{find_told}
 use Rattle.psv0_layout.specs.Handed.{Section, handed}
-use Rattle.psv0_layout.specs.Judged.{opened}
 use Rattle.psv0_layout.specs.Layout.{edition_read_of}
 use Rattle.psv0_layout.specs.Shown.{view, Question, shown, queried}
 use Rattle.psv0_layout.specs.Answers.{info_answer_of}
 use Rattle.places_layout.specs.Answers.{info_by}
 use Rattle.places_layout.specs.Handed.{handed_by}
-use Rattle.places_layout.specs.Read.{Answer, given, answered_by}
+use Rattle.places_layout.specs.Read.{given, answered_by}
 use Rattle.places_layout.proofs.Fresh as fresh
 use Rattle.places_layout.proofs.Placing.{PartAt}
 use Rattle.container_layout.specs.Container.{psv0, is_there, start_found, data_found, psv_of, container_judged, container_answered}

@@ -17,7 +17,6 @@ use Rattle.part_table_layout.specs.Lookup.{find}
 use Rattle.part_table_layout.specs.declared.Part.{Part}
 use Rattle.psv0_layout.specs.Answers.{field_of}
 use Rattle.psv0_layout.specs.Field.{stage}
-use Rattle.psv0_layout.specs.Judged.{opened}
 use Rattle.psv0_layout.specs.Layout.{sections, seen, edition_read_of}
 use Rattle.psv0_layout.specs.Shown.{number, set_if, value, shown_at}
 use Rattle.psv0_layout.specs.declared.Field.{Field}

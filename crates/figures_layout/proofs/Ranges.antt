@@ -1,7 +1,7 @@
 -- The answers of openings lie in the figures' tables: the refusal's number, the file's edition, the stage; and accepted lengths are short.
 -- Assumes nothing.
 use Prim.Native.Nat.{ℕ, ◌≤◌, ◌<◌}
-use mathlib.Core.Path.{◌≡◌, refl, sym, ◌∙◌}
+use mathlib.Core.Path.{◌≡◌, refl}
 use mathlib.Core.Bool.{Bool, true, false}
 use mathlib.Core.List.{List}
 use native.Mathlib.Omega.{arith}
@@ -18,7 +18,7 @@ use Rattle.wire.proofs.Verdicts.{check_then}
 use Rattle.part_table_layout.proofs.Accepted.{accepted_told}
 use Rattle.psv0_layout.specs.Answers.{field_of, number_beside}
 use Rattle.psv0_layout.specs.Field.{stage}
-use Rattle.psv0_layout.specs.Judged.{fields_judged, opened}
+use Rattle.psv0_layout.specs.Judged.{fields_judged}
 use Rattle.psv0_layout.specs.Layout.{sections, seen, edition_read_of}
 use Rattle.psv0_layout.specs.Shown.{number, set_if, value, shown_at, beside}
 use Rattle.psv0_layout.specs.declared.Field.TheVariants.{Set}

@@ -2,13 +2,13 @@
 -- accepts.
 -- Assumes nothing.
 use Prim.Native.Nat.{ℕ, ◌+◌, ◌*◌, ◌≤◌, ◌<◌}
-use mathlib.Core.Path.{◌≡◌, refl, sym, ◌∙◌, ap}
+use mathlib.Core.Path.{◌≡◌, refl, ap}
 use mathlib.Core.Bool.{Bool, true, false, ◌&&◌}
 use mathlib.Core.List.{List, []}
 use mathlib.Core.Logic.{◌⊎◌, inl, inr}
 use native.Mathlib.Omega.{arith}
 use lib.Dec.{leb, ltb}
-use lib.ListN.{length, get_or, take, drop, length-drop}
+use lib.ListN.{length, get_or, length-drop}
 use lib.Seq.{length-take-le}
 use borrow.Author.Tests.{leb-true, leb-false, ltb-true}
 use Rattle.wire.specs.Choice.{choose}
@@ -17,9 +17,9 @@ use Rattle.wire.specs.declared.Verdict.{Verdict}
 use Rattle.wire.specs.declared.Verdict.TheVariants.{Accepted, Refused}
 use Rattle.wire.proofs.Choices.{both}
 use Rattle.psv0_layout.specs.Layout.{resource_width}
-use Rattle.psv0_layout.specs.Shown.{Value, unset, number, view, Question, stage_union, least_lanes, most_lanes, stage_number, uses_view, max_vertex_count, patch_vector_count, mesh_topology, input_elements, output_elements, patch_elements, input_vector_count, output_vector_count, threads, entry_name_offset_of, resource_field, element_field, element_string, element_points, element_array, mask, entry_name, entry_points, resource_count, string_bytes, index_count, element_count, needs, set_if, value, is_set}
+use Rattle.psv0_layout.specs.Shown.{Value, number, view, Question, stage_union, least_lanes, most_lanes, stage_number, uses_view, max_vertex_count, patch_vector_count, mesh_topology, input_elements, output_elements, patch_elements, input_vector_count, output_vector_count, threads, entry_name_offset_of, resource_field, element_field, element_string, element_points, element_array, mask, entry_name, entry_points, resource_count, string_bytes, index_count, element_count, needs, set_if, value, is_set}
 use Rattle.psv0_layout.proofs.Positions.{rows_length}
-use Rattle.places_layout.specs.Read.{body_by, seen_by, Source, source_of, is_there, readable, value_by, Answer, given, refusal, answered_from, answered_by}
+use Rattle.places_layout.specs.Read.{body_by, seen_by, source_of, is_there, readable, value_by, Answer, given, refusal, answered_from, answered_by}
 use Rattle.places_layout.specs.declared.SectionPlaces.{SectionPlaces}
 use Rattle.places_layout.proofs.Standing.{resource_row}
 

@@ -3,37 +3,34 @@
 use Prim.Native.Nat.{ℕ, ◌+◌, ◌*◌, ◌≤◌, ◌<◌}
 use mathlib.Core.Path.{◌≡◌, refl, sym, ◌∙◌, ap}
 use mathlib.Core.Bool.{Bool, true, false, ◌&&◌}
-use mathlib.Core.List.{List, [], ◌∷◌}
+use mathlib.Core.List.{List, []}
 use mathlib.Core.Logic.{◌⊎◌, ⊎_elim}
 use native.Mathlib.Omega.{arith}
-use native.Mathlib.Nat.{add-zero}
 use lib.Dec.{leb, ltb}
 use lib.ListN.{length, get_or, take, drop, length-drop}
 use lib.Seq.{get_or-take, take-take, length-take-le}
-use borrow.Author.Tests.{le-leb, lt-leb, lt-ltb, le-ltb, leb-true, leb-false}
+use borrow.Author.Tests.{le-leb, lt-ltb, le-ltb, leb-true, leb-false}
 use Rattle.constants.specs.Edition.{size_of}
 use Rattle.constants.proofs.Editions.{size_mono}
 use Rattle.wire.specs.Choice.{choose}
 use Rattle.wire.specs.Number.{u16_at, u32_at}
 use Rattle.wire.specs.Verdict.{check}
-use Rattle.wire.specs.declared.Verdict.TheVariants.{Accepted, Refused}
+use Rattle.wire.specs.declared.Verdict.TheVariants.{Accepted}
 use Rattle.wire.proofs.Choices.{choose_eq}
 use Rattle.wire.proofs.Numbers.{u32_take}
 use Rattle.psv0_layout.specs.Answers.{field_of, info_of, resource_of, element_of, refused_info, refused_resource, refused_element}
-use Rattle.psv0_layout.specs.Field.{vertex_count, patch_byte, topology, thread_count}
-use Rattle.psv0_layout.specs.Layout.{Seen, no_body, rows, resource_width}
+use Rattle.psv0_layout.specs.Layout.{Seen, no_body, resource_width}
 use Rattle.psv0_layout.specs.Parts.{resource_shown, element_shown}
-use Rattle.psv0_layout.specs.Shown.{Value, unset, number, view, Question, stage_union, least_lanes, most_lanes, stage_number, uses_view, max_vertex_count, patch_vector_count, mesh_topology, input_elements, output_elements, patch_elements, input_vector_count, output_vector_count, threads, entry_name_offset_of, resource_field, element_field, needs, set_if, of_resource, element_fields, value}
+use Rattle.psv0_layout.specs.Shown.{Value, unset, number, Question, least_lanes, most_lanes, stage_number, uses_view, max_vertex_count, patch_vector_count, mesh_topology, input_elements, output_elements, patch_elements, input_vector_count, output_vector_count, threads, entry_name_offset_of, resource_field, element_field, needs, set_if, element_fields, value}
 use Rattle.psv0_layout.specs.declared.ElementAnswer.{ElementAnswer}
 use Rattle.psv0_layout.specs.declared.ElementRecord.{ElementRecord}
-use Rattle.psv0_layout.specs.declared.Field.TheVariants.{Unset}
 use Rattle.psv0_layout.specs.declared.InfoAnswer.{InfoAnswer}
 use Rattle.psv0_layout.specs.declared.ResourceAnswer.{ResourceAnswer}
 use Rattle.psv0_layout.specs.declared.ResourceRecord.{ResourceRecord}
-use Rattle.psv0_layout.proofs.Positions.{part_byte, part_u16, part_u32, rows_length}
+use Rattle.psv0_layout.proofs.Positions.{part_u16, rows_length}
 use Rattle.places_layout.specs.Answers.{shown_by, info_by, resource_by, element_by}
 use Rattle.places_layout.specs.Parts.{staged, of_runtime}
-use Rattle.places_layout.specs.Read.{body_by, seen_by, Source, in_resource, in_element, source_of, is_there, readable, value_by, Answer, given, refusal, answered_from, answered_by}
+use Rattle.places_layout.specs.Read.{body_by, seen_by, source_of, is_there, readable, value_by, Answer, given, refusal, answered_from, answered_by}
 use Rattle.places_layout.specs.declared.SectionPlaces.{SectionPlaces}
 use Rattle.places_layout.proofs.Any.{width_mono}
 use Rattle.places_layout.proofs.Standing.{too_early, not_there, outside, reads, resource_row, element_row}

@@ -1,23 +1,18 @@
 -- "For the bytes it was made from, each answer equals the fresh one": PSV0 data d that stand in the bytes b from the place o on, opened at edition k.
 -- Assumes nothing.
 use Prim.Native.Nat.{ℕ}
-use mathlib.Core.Path.{◌≡◌, refl, sym, ◌∙◌, ap, ap₂}
+use mathlib.Core.Path.{◌≡◌, refl, ◌∙◌, ap}
 use mathlib.Core.List.{List}
 use native.Mathlib.Omega.{arith}
 use borrow.Author.Tests.{le-leb}
 use Rattle.wire.specs.Verdict.{◌then◌, check}
-use Rattle.wire.specs.declared.Verdict.{Verdict}
 use Rattle.wire.specs.declared.Verdict.TheVariants.{Accepted}
 use Rattle.psv0_layout.specs.Answers.{field_of, bytes_of, info_of, resource_of, element_of, lengths_of, info_answer_of, resource_answer_of, element_answer_of, lengths_answer_of, question_of, points_of, section_of, SpanShows}
 use Rattle.psv0_layout.specs.Handed.{Section, handed}
 use Rattle.psv0_layout.specs.Judged.{opened}
 use Rattle.psv0_layout.specs.Layout.{edition_read_of}
-use Rattle.psv0_layout.specs.Shown.{Value, number, view, Question, least_lanes, resource_field, element_field, value, shown_at, shown, queried}
-use Rattle.psv0_layout.specs.declared.ElementAnswer.{ElementAnswer}
-use Rattle.psv0_layout.specs.declared.InfoAnswer.{InfoAnswer}
-use Rattle.psv0_layout.specs.declared.LengthsAnswer.{LengthsAnswer}
+use Rattle.psv0_layout.specs.Shown.{view, Question, least_lanes, resource_field, element_field, value, shown_at, shown, queried}
 use Rattle.psv0_layout.specs.declared.Points.{Points}
-use Rattle.psv0_layout.specs.declared.ResourceAnswer.{ResourceAnswer}
 use Rattle.psv0_layout.specs.declared.Section as cases
 use Rattle.psv0_layout.specs.declared.Span.{Span}
 use Rattle.psv0_layout.specs.declared.View.{View}

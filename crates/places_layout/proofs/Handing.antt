@@ -1,6 +1,6 @@
 -- By a record that holds, the bytes of every section are those that a reading hands out.
 -- Assumes nothing.
-use Prim.Native.Nat.{ℕ, ◌+◌, ◌*◌, ◌≤◌}
+use Prim.Native.Nat.{ℕ, ◌+◌, ◌≤◌}
 use mathlib.Core.Path.{◌≡◌, refl, ◌∙◌, ap}
 use mathlib.Core.Bool.{Bool, true, false}
 use mathlib.Core.List.{List, []}
@@ -14,8 +14,8 @@ use Rattle.psv0_layout.specs.Layout.{sections}
 use Rattle.psv0_layout.specs.Shown.{view}
 use Rattle.places_layout.specs.declared.SectionPlaces.{SectionPlaces}
 use Rattle.places_layout.specs.Handed.{later_by, start_by, length_by, stretch_in, handed_by}
-use Rattle.places_layout.specs.Read.{given, refusal}
-use Rattle.places_layout.proofs.Holding.{HoldsBody, Holds}
+use Rattle.places_layout.specs.Read.{given}
+use Rattle.places_layout.proofs.Holding.{Holds}
 
 whole : (b : List ℕ) (at n : ℕ) (l : List ℕ) → take n (drop at b) ≡ l → at + n ≤ length b → stretch_in b at n ≡ given (view l)
 whole b at n l e h = rw (le-leb _ _ h, e)

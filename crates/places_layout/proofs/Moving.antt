@@ -1,20 +1,18 @@
 -- The record of data that stand further on is that of the data alone, moved; and its numbers are small.
 -- Assumes nothing.
-use Prim.Native.Nat.{ℕ, ◌+◌, ◌*◌, ◌%◌, ◌≤◌, ◌<◌}
-use mathlib.Core.Path.{◌≡◌, refl, sym, ◌∙◌, ap}
+use Prim.Native.Nat.{ℕ, ◌+◌, ◌≤◌}
+use mathlib.Core.Path.{◌≡◌, refl}
 use mathlib.Core.Bool.{Bool, true, false}
 use mathlib.Core.List.{List}
 use native.Mathlib.Omega.{arith}
 use lib.Dec.{leb}
 use lib.ListN.{length}
-use borrow.Author.Tests.{leb-true, leb-false}
+use borrow.Author.Tests.{leb-true}
 use Rattle.wire.specs.Choice.{choose}
-use Rattle.wire.specs.Number.{u32_at}
 use Rattle.wire.specs.declared.Verdict.TheVariants.{Accepted}
 use Rattle.psv0_layout.specs.Judged.{opened}
 use Rattle.psv0_layout.specs.Layout.{sections, edition_read_of}
 use Rattle.places_layout.specs.Placed.{head_at, whole_at, places_at, moved_place, moved_by}
-use Rattle.places_layout.specs.declared.SectionPlaces.{SectionPlaces}
 use Rattle.places_layout.proofs.Holding.{Holds, HoldsBody}
 use Rattle.places_layout.proofs.Placing.{alone, places_hold}
 

@@ -11,7 +11,6 @@ use Rattle.psv0_layout.specs.declared.Points.{Points}
 use Rattle.psv0_layout.specs.declared.Points.TheVariants.{Count}
 use Rattle.psv0_layout.specs.declared.Span.{Span}
 use Rattle.places_layout.specs.Handed.{stretch_in}
-use Rattle.places_layout.specs.Placed.{head_only}
 use Rattle.places_layout.specs.Read.{source_of, is_there, value_by}
 use Rattle.places_layout.specs.declared.SectionPlaces.{SectionPlaces}
 

@@ -2,10 +2,10 @@
 -- Assumes nothing.
 use mathlib.Core.Path.{◌≡◌, refl}
 use mathlib.Core.Bool.{Bool, true, false}
-use Prim.Native.Nat.{ℕ, ◌≤◌, ◌<◌}
+use Prim.Native.Nat.{ℕ, ◌≤◌}
 use lib.Dec.{leb}
-use borrow.Author.Tests.{le-leb, lt-leb}
-use Rattle.psv0_layout.specs.Shown.{Value, unset, set_if}
+use borrow.Author.Tests.{le-leb}
+use Rattle.psv0_layout.specs.Shown.{Value, set_if}
 use Rattle.psv0_layout.specs.Answers.{field_of}
 use Rattle.psv0_layout.specs.declared.Field.TheVariants.{Unset}
 

@@ -15,8 +15,8 @@ use Rattle.wire.specs.declared.Verdict.TheVariants.{Accepted}
 use Rattle.wire.proofs.Choices.{both}
 use Rattle.wire.proofs.Verdicts.{check_then, check_accepted}
 use Rattle.psv0_layout.specs.Field.{element_total, mask_bytes_of}
-use Rattle.psv0_layout.specs.Judged.{head_judged, body_fits}
-use Rattle.psv0_layout.specs.Layout.{records, records_fit, guide_of, after2, sections}
+use Rattle.psv0_layout.specs.Judged.{body_fits}
+use Rattle.psv0_layout.specs.Layout.{records, records_fit, guide_of, after2}
 use Rattle.psv0_layout.specs.Position.{next_records, stride_at, first_record, resources_start, strings_start, indices_start, elements_start, masks_start}
 use Rattle.psv0_layout.proofs.Positions.{drop_u32, next_records_inside, records_fit_at, body_fits_at}
 

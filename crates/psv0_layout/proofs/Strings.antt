@@ -1,7 +1,7 @@
 -- Every string that a reading shows is well formed, and the code points that stand beside it are its own.
 -- Assumes nothing.
 use Prim.Native.Nat.{ℕ, ◌≤◌, ◌<◌}
-use mathlib.Core.Path.{◌≡◌, refl}
+use mathlib.Core.Path.{◌≡◌}
 use mathlib.Core.Bool.{true}
 use mathlib.Core.List.{List, []}
 use lib.ListN.{length, get_or}
@@ -11,7 +11,7 @@ use Rattle.wire.specs.Number.{u32_at}
 use Rattle.wire.specs.declared.Verdict.TheVariants.{Accepted}
 use Rattle.psv0_layout.specs.Field.{element_total, name_offset_of}
 use Rattle.psv0_layout.specs.Judged.{opened}
-use Rattle.psv0_layout.specs.Layout.{guide_of, sections, seen, body_of, edition_read_of}
+use Rattle.psv0_layout.specs.Layout.{guide_of, sections, seen, edition_read_of}
 use Rattle.psv0_layout.specs.Reference.{string_at}
 use Rattle.psv0_layout.specs.Shown.{Value, number, view, element_string, element_points, entry_name, entry_points, value, shown_at}
 use Rattle.psv0_layout.proofs.Opened.{element_good, entry_good}

@@ -28,7 +28,7 @@ ghost use Rattle.root_signature_layout.specs.Root.{root_of, item_of, item_alone_
 ghost use Rattle.root_signature_report_layout.specs.Reported.{root_report_of, item_report_of, range_report_of};
 ghost use Rattle.settings_layout.specs.Given as settings_writing;
 ghost use Rattle.settings_layout.specs.Shown.{settings_of, row_answer_of, row_alone_of, setting_answer_of};
-ghost use Rattle.signature_layout.specs.Signature.{signature_of, element_of, alone_of, view_of as nameView};
+ghost use Rattle.signature_layout.specs.Signature.{signature_of, element_of, alone_of, view_of as name_view};
 ghost use Rattle.wire.specs.Number.{u32_at};
 ghost use Rattle.qollqamir.specs.Boundary.{c_verdict, c_field, pairs_field, c_table, c_part, c_opening, c_psv_opening, c_opened, c_psv_opened, placed_section, c_info, c_resource, c_element, c_lengths, is_string_of, points_number, c_span, c_written, c_replaced, c_assembly, stages_number, c_header, c_program, c_report, c_signature, c_signature_report, name_parts, c_signature_element, c_difference, part_numbered, no_part, report_numbered, element_numbered, difference_numbered, c_root, c_root_report, parameter_fields, c_item, c_range, c_settings, c_settings_row, c_settings_row_alone, setting_field, c_setting, c_settings_written, addition_number, addition_verdict, c_added, joining_number, c_joined, view_of, section_numbered, section_verdict, section_shown, CShows};
 
@@ -1667,7 +1667,7 @@ pub extern "C" fn qollqamir_sg1_element_alone(d: &[u8], i: usize) -> CSignatureE
 // The name of element i of such data: 43 to 45 and 52, then 26.
 #[unsafe(no_mangle)]
 pub extern "C" fn qollqamir_sg1_name(d: &[u8], i: usize) -> CSpan
-    ensures { result ≡ c_span (nameView (element_of d.now i)) }
+    ensures { result ≡ c_span (name_view (element_of d.now i)) }
 {
     c_span(signature::name(d, i))
 }
@@ -1709,7 +1709,7 @@ pub extern "C" fn qollqamir_signature_element(
 // The name of element i of the part as a stretch of the container: those of the report, then 26.
 #[unsafe(no_mangle)]
 pub extern "C" fn qollqamir_signature_name(b: &[u8], edition: usize, part: u32, i: usize) -> CSpan
-    ensures { result ≡ c_span (nameView (element_numbered part edition b.now i)) }
+    ensures { result ≡ c_span (name_view (element_numbered part edition b.now i)) }
 {
     if 2 < part {
         return c_span(signature::view_of(no_part(b, edition)));

@@ -30,7 +30,7 @@ use Rattle.container_layout.specs.Placed.{container_places}
 use Rattle.container_layout.proofs.Containers.{before_told, opened_told}
 use Rattle.replacing_layout.specs.Answer.{replacement_of, output_of, Replacing, Replaceable}
 use Rattle.replacing_layout.specs.Judged.{new_judged, replacing_judged}
-use Rattle.replacing_layout.specs.Replaced.{moved, replaced_at, replaced}
+use Rattle.replacing_layout.specs.Replaced.{replaced_at, replaced}
 use Rattle.replacing_layout.specs.declared.Replacement.{Replacement}
 use Rattle.replacing_layout.proofs.Containers.{there, replaces, places_new}
 use Rattle.replacing_layout.proofs.Places.{replaced_length}

@@ -8,7 +8,6 @@ use native.Mathlib.Omega.{arith}
 use lib.ListN.{length, get_or, take, drop}
 use borrow.Author.Tests.{le-leb}
 use Rattle.wire.specs.Number.{u32_at, Bytes}
-use Rattle.wire.specs.Verdict.{◌then◌}
 use Rattle.wire.specs.declared.Verdict.TheVariants.{Accepted}
 use Rattle.part_table_layout.specs.Lookup.{find}
 use Rattle.part_table_layout.specs.Table.{count_of, offset_at, size_at, end_at, table_judged}

@@ -3,22 +3,20 @@
 -- Assumes nothing.
 use Prim.Native.Nat.{ℕ, zero, suc, ◌+◌, ◌*◌, ◌≤◌, ◌<◌}
 use mathlib.Core.Path.{◌≡◌, refl, sym, ◌∙◌}
-use mathlib.Core.Bool.{Bool, true, false, ◌&&◌}
+use mathlib.Core.Bool.{Bool, true, false}
 use mathlib.Core.List.{List, [], ◌∷◌, ◌++◌}
 use native.Mathlib.Omega.{arith}
 use native.Mathlib.Nat.{mul-le-mul_left, mul-suc}
 use lib.Dec.{leb, ltb, eqb}
 use lib.ListN.{length}
-use borrow.Author.Tests.{leb-true, lt-ltb, le-ltb, ltb-true, eq-eqb, ne_eqb, eqb-true, eqb-false}
-use Rattle.wire.specs.Choice.{choose}
+use borrow.Author.Tests.{leb-true, lt-ltb, le-ltb, ltb-true, eq-eqb, ne_eqb, eqb-true}
 use Rattle.wire.specs.Number.{u32_at}
 use Rattle.wire.specs.Verdict.{◌then◌, check, when, each}
-use Rattle.wire.specs.declared.Verdict.{Verdict}
-use Rattle.wire.specs.declared.Verdict.TheVariants.{Accepted, Refused}
+use Rattle.wire.specs.declared.Verdict.TheVariants.{Accepted}
 use Rattle.wire.proofs.Verdicts.{then_accepted, check_accepted, each_accepted}
 use Rattle.psv0_layout.specs.declared.Field.{Field}
 use Rattle.psv0_layout.specs.declared.Field.TheVariants.{Set, Unset}
-use Rattle.root_signature_layout.specs.Root.{version_of, parameters_of, items_of, in11, range_size, parameter_at, type_at, visibility_at, data_at, data_size, ranges_of, range_at, sampler_at, header_judged, own_judged, type_judged, data_judged, ranges_judged, parameter_judged, sampler_judged, item_judged, root_judged, single_of, parameter_of, sampler_of, item_at, number_of, values_of, item_there, range_there, item_queried, item_alone, item_of, item_alone_of, range_answer_of, range_alone_of}
+use Rattle.root_signature_layout.specs.Root.{version_of, parameters_of, items_of, in11, range_size, parameter_at, type_at, visibility_at, data_at, data_size, ranges_of, range_at, sampler_at, header_judged, own_judged, type_judged, data_judged, ranges_judged, parameter_judged, sampler_judged, item_judged, root_judged, single_of, parameter_of, sampler_of, item_at, number_of, values_of, item_there, item_queried, item_alone, item_of, item_alone_of, range_answer_of, range_alone_of}
 
 -- ---- item i by itself
 module _ (d : List ℕ) (a : root_judged d ≡ Accepted) where

@@ -1,22 +1,20 @@
 -- The steps of the reader's code: its checks at numbers that it holds, and its answers.
 -- Assumes nothing.
 use Prim.Native.Nat.{ℕ, ◌+◌, ◌-◌, ◌*◌, ◌≤◌, ◌<◌}
-use mathlib.Core.Path.{◌≡◌, refl, sym, ◌∙◌}
-use mathlib.Core.Bool.{Bool, ◌&&◌}
+use mathlib.Core.Path.{◌≡◌, sym, ◌∙◌}
+use mathlib.Core.Bool.{Bool}
 use mathlib.Core.List.{List}
-use native.Mathlib.Omega.{arith}
 use native.Mathlib.Numerals.{add-one}
-use lib.Dec.{leb, ltb, eqb}
+use lib.Dec.{leb, ltb}
 use lib.ListN.{length}
 use borrow.Author.Tests.{le-leb, lt-leb, lt-ltb, le-ltb, eq-eqb, ne_eqb}
-use Rattle.wire.specs.Choice.{choose}
 use Rattle.wire.specs.Number.{u32_at}
 use Rattle.wire.specs.Verdict.{◌then◌, check, when, each}
 use Rattle.wire.specs.declared.Verdict.{Verdict}
 use Rattle.wire.specs.declared.Verdict.TheVariants.{Accepted, Refused}
 use Rattle.wire.proofs.Verdicts.{each_stop, each_next}
 use Rattle.psv0_layout.specs.declared.Field.{Field}
-use Rattle.root_signature_layout.specs.Root.{version_of, parameters_of, parameters_at, samplers_of, samplers_at, items_of, in11, descriptor_size, range_size, parameter_at, type_at, visibility_at, data_at, data_size, ranges_of, range_at, sampler_at, header_judged, own_judged, type_judged, data_judged, ranges_judged, parameter_judged, sampler_judged, item_judged, root_judged, parameter_of, sampler_of, item_at, range_of, header_of, root_of, no_header, item_there, range_there, range_if, refused_range}
+use Rattle.root_signature_layout.specs.Root.{version_of, parameters_of, parameters_at, samplers_at, items_of, in11, range_size, parameter_at, type_at, visibility_at, data_at, data_size, ranges_of, range_at, sampler_at, header_judged, own_judged, type_judged, data_judged, ranges_judged, parameter_judged, sampler_judged, item_judged, root_judged, parameter_of, sampler_of, item_at, range_of, header_of, root_of, no_header, range_there, range_if, refused_range}
 use Rattle.root_signature_layout.specs.declared.DescriptorRange.{DescriptorRange}
 use Rattle.root_signature_layout.specs.declared.Item.{Item}
 use Rattle.root_signature_layout.specs.declared.Item.TheVariants.{Constants, Descriptor, Table}

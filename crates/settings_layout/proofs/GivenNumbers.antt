@@ -1,22 +1,21 @@
 -- The writer's numbers: how wide they are, how they are laid, and when they fit.
 -- Assumes nothing.
 use Prim.Native.Nat.{ℕ, zero, suc, ◌+◌, ◌/◌, ◌%◌, ◌<◌, ◌≤◌}
-use mathlib.Core.Path.{◌≡◌, refl, sym, ◌∙◌, ap}
+use mathlib.Core.Path.{◌≡◌, refl, ap}
 use mathlib.Core.Bool.{Bool, true, false}
-use mathlib.Core.List.{List, [], ◌∷◌, ◌++◌, append_assoc}
+use mathlib.Core.List.{List, [], ◌∷◌, ◌++◌}
 use native.Mathlib.Omega.{arith}
 use lib.Dec.{ltb}
 use lib.ListN.{length, get_or, length-append}
 use Rattle.wire.specs.Choice.{choose}
 use Rattle.wire.specs.Verdict.{◌then◌}
-use Rattle.wire.specs.declared.Verdict.TheVariants.{Accepted, Refused}
+use Rattle.wire.specs.declared.Verdict.TheVariants.{Refused}
 use Rattle.settings_layout.specs.declared.Row.{Row}
 use Rattle.settings_layout.specs.Groups.{groups, in_groups}
-use Rattle.settings_layout.specs.Rules.{row}
 use Rattle.settings_layout.specs.File.{judged}
 use Rattle.settings_layout.specs.Laid.{row_laid, rows_laid, laid}
 use Rattle.settings_layout.specs.Given.{rows_given}
-use Rattle.settings_layout.specs.Checked.{numbers_laid, width, row_width, RowFits, Fits}
+use Rattle.settings_layout.specs.Checked.{numbers_laid, width, row_width, Fits}
 use Rattle.settings_layout.proofs.Groupings.{first_large}
 use Rattle.settings_layout.proofs.Read.{number_refused}
 

@@ -1,27 +1,24 @@
 -- The verdict on what the writer would write, over the numbers that it is given.
 -- Assumes nothing.
-use Prim.Native.Nat.{ℕ, zero, suc, ◌+◌, ◌<◌, ◌≤◌, ◌%◌}
-use mathlib.Core.Path.{◌≡◌, refl, sym, ◌∙◌, ap, ap₂}
-use mathlib.Core.Bool.{Bool, true, false}
+use Prim.Native.Nat.{ℕ, ◌+◌, ◌<◌, ◌≤◌, ◌%◌}
+use mathlib.Core.Path.{◌≡◌, refl, sym, ◌∙◌, ap}
 use mathlib.Core.List.{List, [], ◌∷◌, ◌++◌}
 use native.Mathlib.Omega.{arith}
-use lib.Dec.{leb, eqb}
-use lib.ListN.{length, get_or, length-append}
+use lib.Dec.{leb}
+use lib.ListN.{length}
 use borrow.Author.Tests.{le-leb, eqb-true, eq-eqb}
 use Rattle.wire.specs.Number.{Bytes}
 use Rattle.wire.specs.Verdict.{◌then◌, check}
-use Rattle.wire.specs.declared.Verdict.{Verdict}
-use Rattle.wire.specs.declared.Verdict.TheVariants.{Accepted, Refused}
-use Rattle.wire.proofs.Verdicts.{then_accepted, check_then, check_accepted, checked, accepted_then}
+use Rattle.wire.specs.declared.Verdict.TheVariants.{Accepted}
+use Rattle.wire.proofs.Verdicts.{then_accepted, check_then, checked, accepted_then}
 use Rattle.settings_layout.specs.declared.Row.{Row}
-use Rattle.settings_layout.specs.Groups.{value_of, size_of, after, in_groups}
-use Rattle.settings_layout.specs.Rules.{row}
-use Rattle.settings_layout.specs.File.{number_judged, row_of, row_size, row_end, row_judged, rows_judged, rows_from, judged, rows_of}
+use Rattle.settings_layout.specs.Groups.{value_of, in_groups}
+use Rattle.settings_layout.specs.File.{number_judged, row_size, row_end, row_judged, rows_judged, judged, rows_of}
 use Rattle.settings_layout.specs.Laid.{row_laid, rows_laid, laid}
 use Rattle.settings_layout.specs.Given.{rows_given, numbers_of, written, writer_judged}
 use Rattle.settings_layout.specs.Checked.{width, row_width, row_given, all_given, RowFits, Fits}
 use Rattle.settings_layout.proofs.Groupings.{first_laid}
-use Rattle.settings_layout.proofs.Read.{number_accepted, front, front_small, RowTold, rows_told, file_told}
+use Rattle.settings_layout.proofs.Read.{number_accepted, front, front_small, rows_told, file_told}
 use Rattle.settings_layout.proofs.RoundTrips.{row_read, row_fits, reads_back, written_again}
 
 -- ---- numbers that fit are read as they were given

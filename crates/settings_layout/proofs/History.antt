@@ -1,28 +1,25 @@
 -- "Adding a last row with a version above all others, where the result is accepted, changes no answer for a version below it."
 -- Assumes nothing.
-use Prim.Native.Nat.{ℕ, zero, suc, ◌+◌, ◌<◌, ◌≤◌}
+use Prim.Native.Nat.{ℕ, ◌+◌, ◌<◌, ◌≤◌}
 use mathlib.Core.Path.{◌≡◌, refl, sym, ◌∙◌, ap}
 use mathlib.Core.Bool.{Bool, true, false, ◌&&◌}
 use mathlib.Core.List.{List, [], ◌∷◌, ◌++◌}
 use native.Mathlib.Omega.{arith}
-use lib.Dec.{leb, eqb}
+use lib.Dec.{eqb}
 use lib.ListN.{length, length-append}
 use borrow.Author.Tests.{lt-leb}
 use Rattle.wire.specs.Number.{Bytes}
 use Rattle.wire.specs.declared.Verdict.TheVariants.{Accepted}
-use Rattle.wire.specs.Verdict.{◌then◌, check}
 use Rattle.wire.proofs.Verdicts.{then_accepted, check_then, check_accepted, checked, accepted_then}
 use Rattle.settings_layout.specs.declared.Row.{Row}
-use Rattle.settings_layout.specs.declared.Setting.{Setting}
-use Rattle.settings_layout.specs.declared.Setting.TheVariants.{Set, Unset}
 use Rattle.settings_layout.specs.Rules.{tells, setting_at}
 use Rattle.settings_layout.specs.File.{judged, rows_of}
-use Rattle.settings_layout.specs.Shown.{setting_if, setting_answer_of}
+use Rattle.settings_layout.specs.Shown.{setting_answer_of}
 use Rattle.settings_layout.specs.Laid.{laid}
-use Rattle.settings_layout.specs.Checked.{width, row_width, row_given, all_given, Fits}
+use Rattle.settings_layout.specs.Checked.{row_given, all_given, Fits}
 use Rattle.settings_layout.proofs.RoundTrips.{reads_back, written_again}
 use Rattle.settings_layout.proofs.Values.{last_silent}
-use Rattle.settings_layout.proofs.GivenRows.{LaidTold, laid_told, laid_accepted}
+use Rattle.settings_layout.proofs.GivenRows.{laid_told, laid_accepted}
 
 not_told : (k v : ℕ) (r : Row) → v < r.version → tells k v r ≡ false
 unfolding tells

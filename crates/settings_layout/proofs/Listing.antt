@@ -1,16 +1,15 @@
 -- A listing: of an accepted file, going on from the first row by rows by themselves gives its rows, and comes to its end.
 -- Assumes nothing.
-use Prim.Native.Nat.{ℕ, zero, suc, ◌+◌, ◌-◌, ◌<◌, ◌≤◌}
+use Prim.Native.Nat.{ℕ, zero, suc, ◌+◌, ◌-◌, ◌≤◌}
 use mathlib.Core.Path.{◌≡◌, refl, sym, ◌∙◌, ap}
 use mathlib.Core.List.{List, [], ◌∷◌}
 use native.Mathlib.Omega.{arith}
 use lib.ListN.{length, drop, length-drop}
 use lib.Seq.{drop-drop}
 use Rattle.wire.proofs.Verdicts.{then_accepted}
-use Rattle.wire.specs.Verdict.{◌then◌}
 use Rattle.wire.specs.declared.Verdict.TheVariants.{Accepted}
 use Rattle.settings_layout.proofs.Read.{row_told, row_end_lem, row_inside, end_told, file_told, number_inside}
-use Rattle.settings_layout.specs.File.{row_of, row_size, row_end, row_judged, rows_judged, rows_from, judged, rows_of}
+use Rattle.settings_layout.specs.File.{row_of, row_size, row_end, rows_judged, rows_from, judged, rows_of}
 use Rattle.settings_layout.specs.Groups.{value_of, size_of, after}
 use Rattle.settings_layout.specs.Shown.{settings_if, settings_of, alone_if, row_alone_of}
 use Rattle.settings_layout.specs.declared.Row.{Row}

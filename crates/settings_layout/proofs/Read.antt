@@ -1,26 +1,23 @@
 -- What an accepted number, row and file tell of the bytes.
 -- Assumes nothing.
-use Prim.Native.Nat.{ℕ, zero, suc, ◌+◌, ◌-◌, ◌<◌, ◌≤◌}
+use Prim.Native.Nat.{ℕ, suc, ◌+◌, ◌-◌, ◌<◌, ◌≤◌}
 use mathlib.Core.Path.{◌≡◌, refl, sym, ◌∙◌, ap}
 use mathlib.Core.Bool.{Bool, true, false}
 use mathlib.Core.List.{List, [], ◌∷◌, ◌++◌}
 use native.Mathlib.Omega.{arith}
-use lib.Dec.{ltb, leb, eqb}
-use lib.ListN.{length, get_or, drop, length-drop}
+use lib.Dec.{ltb}
+use lib.ListN.{length, drop, length-drop}
 use lib.Seq.{drop_at, drop-drop}
 use borrow.Author.Tests.{ltb-true, ltb-false, leb-true, eqb-true}
 use Rattle.wire.specs.Number.{Bytes}
-use Rattle.wire.specs.Verdict.{◌then◌, check}
-use Rattle.wire.specs.declared.Verdict.{Verdict}
 use Rattle.wire.specs.declared.Verdict.TheVariants.{Accepted, Refused}
 use Rattle.wire.proofs.Numbers.{bytes_drop}
 use Rattle.wire.proofs.Verdicts.{then_accepted, check_then, check_accepted}
 use Rattle.settings_layout.specs.declared.Number.{Number}
 use Rattle.settings_layout.specs.declared.Number.TheVariants.{Good, Bad}
-use Rattle.settings_layout.specs.declared.Row.{Row}
 use Rattle.settings_layout.specs.Groups.{number, value_if, size_if, value_of, size_of, after, in_groups}
 use Rattle.settings_layout.specs.Rules.{key_known, in_range, may_follow}
-use Rattle.settings_layout.specs.File.{number_if, number_judged, row_of, row_size, row_end, row_judged, rows_judged, rows_from, judged, rows_of}
+use Rattle.settings_layout.specs.File.{number_if, number_judged, row_size, row_end, row_judged, rows_judged, judged}
 use Rattle.settings_layout.proofs.Groupings.{first_laid, first_large, first_told, first_inside}
 
 -- a refusal is no acceptance

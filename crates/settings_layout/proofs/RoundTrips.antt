@@ -1,18 +1,17 @@
 -- Demand 2, settings: what the writer accepts reads back as it was given; an accepted file, read and written again, gives the same bytes.
 -- Assumes nothing.
-use Prim.Native.Nat.{ℕ, zero, suc, ◌+◌, ◌<◌, ◌≤◌}
-use mathlib.Core.Path.{◌≡◌, refl, sym, ◌∙◌, ap, ap₂}
+use Prim.Native.Nat.{ℕ, zero, suc}
+use mathlib.Core.Path.{◌≡◌, refl, sym, ◌∙◌, ap}
 use mathlib.Core.List.{List, [], ◌∷◌, ◌++◌}
-use native.Mathlib.Omega.{arith}
 use lib.ListN.{length, take, drop}
 use lib.Seq.{take_at}
 use Rattle.wire.specs.Number.{Bytes}
 use Rattle.wire.specs.declared.Verdict.TheVariants.{Accepted}
 use Rattle.settings_layout.specs.declared.Row.{Row}
 use Rattle.settings_layout.specs.declared.Number.TheVariants.{Good}
-use Rattle.settings_layout.specs.Groups.{number, value_of, size_of, after, groups, in_groups}
+use Rattle.settings_layout.specs.Groups.{number, value_of, after, groups, in_groups}
 use Rattle.settings_layout.proofs.Groupings.{first_laid, first_told}
-use Rattle.settings_layout.specs.File.{number_judged, row_of, row_size, row_end, row_judged, rows_judged, rows_from, judged, rows_of}
+use Rattle.settings_layout.specs.File.{number_judged, row_of, row_end, rows_judged, rows_from, judged, rows_of}
 use Rattle.settings_layout.specs.Laid.{row_laid, rows_laid, laid}
 use Rattle.settings_layout.specs.Checked.{RowFits}
 use Rattle.settings_layout.proofs.Read.{front, front_small, again, bytes_after, RowTold, rows_told, end_told, file_told}

@@ -1,5 +1,5 @@
 -- A settings file: "a row count, then rows of version, key and value".
-use Rattle.std.specs.Prelude.{List, [], ◌∷◌, ℕ, zero, suc, ◌+◌, leb, eqb, length, drop}
+use Rattle.std.specs.Prelude.{List, [], ◌∷◌, ℕ, zero, suc, ◌+◌, leb, eqb, length}
 use Rattle.wire.specs.Verdict.{◌then◌, check}
 use Rattle.wire.specs.declared.Verdict.{Verdict}
 use Rattle.wire.specs.declared.Verdict.TheVariants.{Accepted, Refused}

@@ -9,7 +9,6 @@ use native.Mathlib.Nat.{mul-le-mul_right, le_trans}
 use lib.ListN.{length, take, drop, length-take, length-drop}
 use borrow.Author.Tests.{eq-eqb, ne_eqb, lt-ltb, le-ltb}
 use Rattle.wire.specs.Number.{u32_at}
-use Rattle.wire.specs.Search.{first}
 use Rattle.wire.specs.Stretch.{same_bytes}
 use Rattle.wire.specs.Verdict.{◌then◌}
 use Rattle.wire.specs.declared.Verdict.TheVariants.{Accepted, Refused}

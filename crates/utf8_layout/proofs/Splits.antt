@@ -2,16 +2,16 @@
 -- Assumes nothing.
 use Prim.Native.Nat.{ℕ, zero, suc, ◌+◌, ◌≤◌, ◌<◌}
 use mathlib.Core.Path.{◌≡◌, refl, sym, ◌∙◌, ap}
-use mathlib.Core.Bool.{Bool, true, false, ◌&&◌, true≢false}
+use mathlib.Core.Bool.{Bool, true, false, true≢false}
 use mathlib.Core.List.{List, [], ◌∷◌, ◌++◌}
 use native.Mathlib.Omega.{arith}
 use lib.Dec.{ltb, eqb}
-use lib.ListN.{length, take, drop, take-append-drop, length-append, length-take}
+use lib.ListN.{length, take, drop, take-append-drop, length-append}
 use lib.Seq.{length-take-le, take-append_seam, drop-append_seam}
 use borrow.Author.Tests.{lt-ltb, eq-eqb, ltb-true, eqb-true}
 use Rattle.wire.specs.Choice.{choose}
 use Rattle.wire.proofs.Choices.{both}
-use Rattle.utf8_layout.specs.Sequence.{Range, ◌to◌, Count, sequences, broken, table, within, fits, front, more, after, counted, is_whole, number_in, well_formed, code_points}
+use Rattle.utf8_layout.specs.Sequence.{Range, ◌to◌, sequences, table, within, fits, front, more, after, counted, is_whole, well_formed, code_points}
 use Rattle.utf8_layout.specs.Split.{is_sequence, are_sequences, join, Split}
 use Rattle.utf8_layout.proofs.Rows.{Row, none, rest, row_for, front_of, front_for, front_length, front_append, table_rising}
 use Rattle.utf8_layout.proofs.Joined.{whole_more, join_well, join_points}

@@ -2,7 +2,6 @@
 -- Assumes nothing.
 use Prim.Native.Nat.{ℕ, suc, ◌+◌, ◌*◌, ◌/◌, ◌%◌, ◌<◌, ◌≤◌}
 use mathlib.Core.Path.{◌≡◌, refl, sym, ◌∙◌, ap}
-use mathlib.Core.Bool.{true, false}
 use mathlib.Core.List.{List, [], ◌∷◌, ◌++◌, append_assoc}
 use lib.ListN.{length, get_or, take, drop, set, get_or-append, get_or-eq_default, length-drop, take-append-drop}
 use lib.Seq.{get_or-append-add, get_or-take, get_or-drop, drop-drop, sets, sets-eq, length-take-le, take_all}
@@ -10,7 +9,6 @@ use native.Mathlib.Nat.{add_assoc, add-zero}
 use native.Mathlib.Numerals.{add-one}
 use native.Mathlib.Omega.{arith}
 use borrow.Author.Tests.{le-leb, lt-leb}
-use Rattle.wire.specs.Choice.{choose}
 use Rattle.wire.specs.Number.{u16_at, u32_at, le16, le32, placed, Bytes}
 
 pub le32_length : (n : ℕ) → length (le32 n) ≡ 4

@@ -1,5 +1,4 @@
 use borrow.Author.Tests.{le-leb, lt-leb}
-use borrow.Author.Rules.{rules}
 use Rattle.constants.proofs.edition_of.Goals as goal
 
 pub returns-then-size : goal.returns-then-size

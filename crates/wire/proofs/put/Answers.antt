@@ -1,6 +1,5 @@
 use mathlib.Core.Path.{refl}
 use native.Mathlib.Omega.{arith}
-use borrow.Author.Rules.{rules}
 use Rattle.wire.proofs.Numbers.{placed_out}
 use Rattle.wire.proofs.Stretches.{lent_placed}
 use Rattle.wire.proofs.put.Goals as goal

@@ -1,7 +1,6 @@
 use lib.ListN.{length-set}
 use native.Mathlib.Omega.{arith}
 use Rattle.wire.proofs.Numbers.{put_two, placed_out, le16_length}
-use borrow.Author.Rules.{rules}
 use Rattle.wire.proofs.put_u16.Goals as goal
 
 pub bounds-out-at-then-len-at-ge2 : goal.bounds-out-at-then-len-at-ge2

@@ -1,7 +1,6 @@
 use lib.ListN.{length-set}
 use native.Mathlib.Omega.{arith}
 use Rattle.wire.proofs.Numbers.{put_four, placed_out, le32_length}
-use borrow.Author.Rules.{rules}
 use Rattle.wire.proofs.put_u32.Goals as goal
 
 pub bounds-out-at-then-len-at-ge4 : goal.bounds-out-at-then-len-at-ge4

@@ -1,8 +1,5 @@
-use Prim.Native.Nat.{◌-◌}
-use lib.ListN.{length}
-use borrow.Author.Rules.{rules}
 use native.Mathlib.Omega.{arith}
-use Rattle.words.proofs.Digits.{Reading, none_named, reading_begin, not_digit_low, not_digit_high, reading_more, is_number, is_greater}
+use Rattle.words.proofs.Digits.{none_named, reading_begin, not_digit_low, not_digit_high, reading_more, is_number, is_greater}
 use Rattle.words.proofs.number_of.Goals as goal
 
 pub returns-then-s-eq0 : goal.returns-then-s-eq0
