@@ -1,6 +1,5 @@
 use Prim.Native.Nat.{◌≤◌, ◌-◌}
 use mathlib.Core.Path.{◌≡◌}
-use borrow.Author.Rules.{rules}
 use Rattle.part_table_runs.proofs.many.Given as goal
 
 abbrev pub invariant-loop-k : goal.invariant-loop-k
