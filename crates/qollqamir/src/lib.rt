@@ -1329,32 +1329,28 @@ fn table_asked(b: &[u8], counting: bool) -> CTable
 }
 
 // The part table, 1 to 9.
-#[unsafe(no_mangle)]
-pub extern "C" fn qollqamir_table(b: &[u8]) -> CTable
+pub fn qollqamir_table(b: &[u8]) -> CTable
     ensures { result ≡ c_table (table_of b.now) }
 {
     table_asked(b, false)
 }
 
 // The part table, 1 to 9, and how many pairs of names were compared.
-#[unsafe(no_mangle)]
-pub extern "C" fn qollqamir_table_counted(b: &[u8]) -> CTable
+pub fn qollqamir_table_counted(b: &[u8]) -> CTable
     ensures { result ≡ c_table (counted_of b.now) }
 {
     table_asked(b, true)
 }
 
 // The first part with a name, from the table alone: 1 to 9, then 26.
-#[unsafe(no_mangle)]
-pub extern "C" fn qollqamir_table_part(b: &[u8], name: &[u8; 4]) -> CPart
+pub fn qollqamir_table_part(b: &[u8], name: &[u8; 4]) -> CPart
     ensures { result ≡ c_part (part_of b.now (u32_at name.now 0)) }
 {
     c_part(part_table::find_part(b, name))
 }
 
 // The part with a name and an occurrence, from the table alone: 1 to 9, then 26.
-#[unsafe(no_mangle)]
-pub extern "C" fn qollqamir_table_part_occurrence(
+pub fn qollqamir_table_part_occurrence(
     b: &[u8],
     name: &[u8; 4],
     occurrence: usize,
@@ -1365,40 +1361,35 @@ pub extern "C" fn qollqamir_table_part_occurrence(
 }
 
 // Whether a name is one of the 24 that are known.
-#[unsafe(no_mangle)]
-pub extern "C" fn qollqamir_known(name: &[u8; 4]) -> bool
+pub fn qollqamir_known(name: &[u8; 4]) -> bool
     ensures { result ≡ is_known (u32_at name.now 0) }
 {
     part_table::known(name)
 }
 
 // Opens a container at an edition.
-#[unsafe(no_mangle)]
-pub extern "C" fn qollqamir_open(b: &[u8], edition: usize) -> COpening
+pub fn qollqamir_open(b: &[u8], edition: usize) -> COpening
     ensures { result ≡ c_opening (container_opening_of edition b.now) }
 {
     c_opening(container::open(b, edition))
 }
 
 // Opens a container at the edition that is read where none is named.
-#[unsafe(no_mangle)]
-pub extern "C" fn qollqamir_open_default(b: &[u8]) -> COpening
+pub fn qollqamir_open_default(b: &[u8]) -> COpening
     ensures { result ≡ c_opening (container_opening_of default_edition b.now) }
 {
     c_opening(container::open_default(b))
 }
 
 // The first part with a name, of a container that opens at an edition.
-#[unsafe(no_mangle)]
-pub extern "C" fn qollqamir_part(b: &[u8], edition: usize, name: &[u8; 4]) -> CPart
+pub fn qollqamir_part(b: &[u8], edition: usize, name: &[u8; 4]) -> CPart
     ensures { result ≡ c_part (container_part edition b.now (u32_at name.now 0)) }
 {
     c_part(container::part(b, edition, name))
 }
 
 // The part with a name and an occurrence, of a container that opens at an edition.
-#[unsafe(no_mangle)]
-pub extern "C" fn qollqamir_part_occurrence(
+pub fn qollqamir_part_occurrence(
     b: &[u8],
     edition: usize,
     name: &[u8; 4],
@@ -1410,8 +1401,7 @@ pub extern "C" fn qollqamir_part_occurrence(
 }
 
 // The fields of the runtime record.
-#[unsafe(no_mangle)]
-pub extern "C" fn qollqamir_runtime_info(b: &[u8], edition: usize) -> CInfo
+pub fn qollqamir_runtime_info(b: &[u8], edition: usize) -> CInfo
     ensures { result ≡ c_info (info_answer_of (container_judged edition b.now) (container_answered edition b.now)) }
 {
     let o = container::open_places(b, edition);
@@ -1425,32 +1415,28 @@ pub extern "C" fn qollqamir_runtime_info(b: &[u8], edition: usize) -> CInfo
 }
 
 // Resource record i.
-#[unsafe(no_mangle)]
-pub extern "C" fn qollqamir_resource(b: &[u8], edition: usize, i: usize) -> CResource
+pub fn qollqamir_resource(b: &[u8], edition: usize, i: usize) -> CResource
     ensures { result ≡ c_resource (resource_answer_of (container_judged edition b.now) (container_answered edition b.now) i) }
 {
     c_resource(container::resource(b, edition, i))
 }
 
 // Element record i, over all lists.
-#[unsafe(no_mangle)]
-pub extern "C" fn qollqamir_element(b: &[u8], edition: usize, i: usize) -> CElement
+pub fn qollqamir_element(b: &[u8], edition: usize, i: usize) -> CElement
     ensures { result ≡ c_element (element_answer_of (container_judged edition b.now) (container_answered edition b.now) i) }
 {
     c_element(container::element(b, edition, i))
 }
 
 // The lists' lengths.
-#[unsafe(no_mangle)]
-pub extern "C" fn qollqamir_lengths(b: &[u8], edition: usize) -> CLengths
+pub fn qollqamir_lengths(b: &[u8], edition: usize) -> CLengths
     ensures { result ≡ c_lengths (lengths_answer_of (container_judged edition b.now) (container_answered edition b.now)) }
 {
     c_lengths(container::lengths(b, edition))
 }
 
 // A view by its kind and number.
-#[unsafe(no_mangle)]
-pub extern "C" fn qollqamir_view(b: &[u8], edition: usize, kind: u32, number: usize) -> CSpan
+pub fn qollqamir_view(b: &[u8], edition: usize, kind: u32, number: usize) -> CSpan
     ensures { CShows b.now (queried (container_judged edition b.now) (container_answered edition b.now (question_of (view_of kind number)))) (bytes_of (container_answered edition b.now (question_of (view_of kind number)))) (points_of (view_of kind number) (container_answered edition b.now)) result }
 {
     c_span(container::view_span(b, edition, view_of(kind, number)))
@@ -1458,8 +1444,7 @@ pub extern "C" fn qollqamir_view(b: &[u8], edition: usize, kind: u32, number: us
 
 // The bytes of a section for writing again: 0 the runtime record, 1 resources, 2 strings, 3 indices, 4 elements, 5 masks; any other
 // is one that isn't there.
-#[unsafe(no_mangle)]
-pub extern "C" fn qollqamir_section(b: &[u8], edition: usize, section: u32) -> CSpan
+pub fn qollqamir_section(b: &[u8], edition: usize, section: u32) -> CSpan
     ensures { CShows b.now (section_verdict section (container_judged edition b.now) (container_answered edition b.now (question_of (view_of 5 0)))) (section_shown section (container_judged edition b.now) (edition_read_of edition (psv_of b.now)) (psv_of b.now) (container_answered edition b.now (question_of (view_of 5 0)))) Points.Unset result }
 {
     if 5 < section {
@@ -1469,16 +1454,14 @@ pub extern "C" fn qollqamir_section(b: &[u8], edition: usize, section: u32) -> C
 }
 
 // Opens a container at an edition, with the places of its PSV0 sections.
-#[unsafe(no_mangle)]
-pub extern "C" fn qollqamir_open_places(b: &[u8], edition: usize) -> COpened
+pub fn qollqamir_open_places(b: &[u8], edition: usize) -> COpened
     ensures { result ≡ c_opened (container_places_of edition b.now) }
 {
     c_opened(container::open_places(b, edition))
 }
 
 // Opens PSV0 data alone, with the places of its sections; it has no parts.
-#[unsafe(no_mangle)]
-pub extern "C" fn qollqamir_psv0_open_places(d: &[u8], edition: usize) -> COpened
+pub fn qollqamir_psv0_open_places(d: &[u8], edition: usize) -> COpened
     ensures { result ≡ c_psv_opened (opened_places edition d.now) }
 {
     c_psv_opened(psv0::open_places(d, edition))
@@ -1486,40 +1469,35 @@ pub extern "C" fn qollqamir_psv0_open_places(d: &[u8], edition: usize) -> COpene
 
 // The fields of the runtime record, by places. The two calls that open the bytes end here, so that they are put into C's struct in one place, and not
 // copied from there.
-#[unsafe(no_mangle)]
-pub extern "C" fn qollqamir_places_runtime_info(b: &[u8], p: SectionPlaces) -> CInfo
+pub fn qollqamir_places_runtime_info(b: &[u8], p: SectionPlaces) -> CInfo
     ensures { result ≡ c_info (info_by p b.now) }
 {
     c_info(places::runtime_info(b, p))
 }
 
 // Resource record i, by places.
-#[unsafe(no_mangle)]
-pub extern "C" fn qollqamir_places_resource(b: &[u8], p: SectionPlaces, i: usize) -> CResource
+pub fn qollqamir_places_resource(b: &[u8], p: SectionPlaces, i: usize) -> CResource
     ensures { result ≡ c_resource (resource_by p b.now i) }
 {
     c_resource(places::resource(b, p, i))
 }
 
 // Element record i, over all lists, by places.
-#[unsafe(no_mangle)]
-pub extern "C" fn qollqamir_places_element(b: &[u8], p: SectionPlaces, i: usize) -> CElement
+pub fn qollqamir_places_element(b: &[u8], p: SectionPlaces, i: usize) -> CElement
     ensures { result ≡ c_element (element_by p b.now i) }
 {
     c_element(places::element(b, p, i))
 }
 
 // The lists' lengths, by places.
-#[unsafe(no_mangle)]
-pub extern "C" fn qollqamir_places_lengths(b: &[u8], p: SectionPlaces) -> CLengths
+pub fn qollqamir_places_lengths(b: &[u8], p: SectionPlaces) -> CLengths
     ensures { result ≡ c_lengths (lengths_by p b.now) }
 {
     c_lengths(places::lengths(b, p))
 }
 
 // A view by its kind and number, by places. A mask takes no time but for finding it, so it is asked for by itself: one choice and no call.
-#[unsafe(no_mangle)]
-pub extern "C" fn qollqamir_places_view(
+pub fn qollqamir_places_view(
     b: &[u8],
     p: SectionPlaces,
     kind: u32,
@@ -1534,8 +1512,7 @@ pub extern "C" fn qollqamir_places_view(
 }
 
 // The bytes of a section for writing again, by places; a section above 5 is one that isn't there.
-#[unsafe(no_mangle)]
-pub extern "C" fn qollqamir_places_section(b: &[u8], p: SectionPlaces, section: u32) -> CSpan
+pub fn qollqamir_places_section(b: &[u8], p: SectionPlaces, section: u32) -> CSpan
     ensures { CShows b.now (placed_section section p b.now).verdict (bytes_of (placed_section section p b.now).value) Points.Unset result }
 {
     if 5 < section {
@@ -1545,16 +1522,14 @@ pub extern "C" fn qollqamir_places_section(b: &[u8], p: SectionPlaces, section: 
 }
 
 // Opens PSV0 data alone at an edition; it has no parts.
-#[unsafe(no_mangle)]
-pub extern "C" fn qollqamir_psv0_open(d: &[u8], edition: usize) -> COpening
+pub fn qollqamir_psv0_open(d: &[u8], edition: usize) -> COpening
     ensures { result ≡ c_psv_opening (opening_of (opened edition d.now) (file_edition_of (u32_at d.now 0)) (edition_read_of edition d.now)) }
 {
     c_psv_opening(psv0::open(d, edition))
 }
 
 // The fields of the runtime record, of PSV0 data alone.
-#[unsafe(no_mangle)]
-pub extern "C" fn qollqamir_psv0_runtime_info(d: &[u8], edition: usize) -> CInfo
+pub fn qollqamir_psv0_runtime_info(d: &[u8], edition: usize) -> CInfo
     ensures { result ≡ c_info (info_answer_of (opened edition d.now) (answered edition d.now)) }
 {
     let o = psv0::open_places(d, edition);
@@ -1568,8 +1543,7 @@ pub extern "C" fn qollqamir_psv0_runtime_info(d: &[u8], edition: usize) -> CInfo
 }
 
 // Resource record i, of PSV0 data alone.
-#[unsafe(no_mangle)]
-pub extern "C" fn qollqamir_psv0_resource(d: &[u8], edition: usize, i: usize) -> CResource
+pub fn qollqamir_psv0_resource(d: &[u8], edition: usize, i: usize) -> CResource
     ensures { result ≡ c_resource (resource_answer_of (opened edition d.now) (answered edition d.now) i) }
 {
     let a = psv0::resource(d, edition, i);
@@ -1584,8 +1558,7 @@ pub extern "C" fn qollqamir_psv0_resource(d: &[u8], edition: usize, i: usize) ->
 }
 
 // Element record i, over all lists, of PSV0 data alone.
-#[unsafe(no_mangle)]
-pub extern "C" fn qollqamir_psv0_element(d: &[u8], edition: usize, i: usize) -> CElement
+pub fn qollqamir_psv0_element(d: &[u8], edition: usize, i: usize) -> CElement
     ensures { result ≡ c_element (element_answer_of (opened edition d.now) (answered edition d.now) i) }
 {
     let a = psv0::element(d, edition, i);
@@ -1597,16 +1570,14 @@ pub extern "C" fn qollqamir_psv0_element(d: &[u8], edition: usize, i: usize) -> 
 }
 
 // The lists' lengths, of PSV0 data alone.
-#[unsafe(no_mangle)]
-pub extern "C" fn qollqamir_psv0_lengths(d: &[u8], edition: usize) -> CLengths
+pub fn qollqamir_psv0_lengths(d: &[u8], edition: usize) -> CLengths
     ensures { result ≡ c_lengths (lengths_answer_of (opened edition d.now) (answered edition d.now)) }
 {
     c_lengths(psv0::lengths(d, edition))
 }
 
 // A view by its kind and number, of PSV0 data alone.
-#[unsafe(no_mangle)]
-pub extern "C" fn qollqamir_psv0_view(d: &[u8], edition: usize, kind: u32, number: usize) -> CSpan
+pub fn qollqamir_psv0_view(d: &[u8], edition: usize, kind: u32, number: usize) -> CSpan
     ensures { CShows d.now (queried (opened edition d.now) (answered edition d.now (question_of (view_of kind number)))) (bytes_of (answered edition d.now (question_of (view_of kind number)))) (points_of (view_of kind number) (answered edition d.now)) result }
 {
     c_span(psv0::view_span(d, edition, view_of(kind, number)))
@@ -1614,8 +1585,7 @@ pub extern "C" fn qollqamir_psv0_view(d: &[u8], edition: usize, kind: u32, numbe
 
 // The bytes of a section for writing again, of PSV0 data alone: 0 the runtime record, 1 resources, 2 strings, 3 indices, 4 elements, 5 masks; any other
 // is one that isn't there.
-#[unsafe(no_mangle)]
-pub extern "C" fn qollqamir_psv0_section(d: &[u8], edition: usize, section: u32) -> CSpan
+pub fn qollqamir_psv0_section(d: &[u8], edition: usize, section: u32) -> CSpan
     ensures { CShows d.now (section_verdict section (opened edition d.now) (answered edition d.now (question_of (view_of 5 0)))) (section_shown section (opened edition d.now) (edition_read_of edition d.now) d.now (answered edition d.now (question_of (view_of 5 0)))) Points.Unset result }
 {
     if 5 < section {
@@ -1625,56 +1595,49 @@ pub extern "C" fn qollqamir_psv0_section(d: &[u8], edition: usize, section: u32)
 }
 
 // The data of a DXIL part alone: 40 to 42.
-#[unsafe(no_mangle)]
-pub extern "C" fn qollqamir_dxil_program(d: &[u8]) -> CProgram
+pub fn qollqamir_dxil_program(d: &[u8]) -> CProgram
     ensures { result ≡ c_program (program_of d.now) }
 {
     c_program(dxil::read(d))
 }
 
 // The report on a container's DXIL part at an edition: what opening gives, then 40 to 42.
-#[unsafe(no_mangle)]
-pub extern "C" fn qollqamir_program(b: &[u8], edition: usize) -> CReport
+pub fn qollqamir_program(b: &[u8], edition: usize) -> CReport
     ensures { result ≡ c_report (program_report_of edition b.now) }
 {
     c_report(dxil_report::report(b, edition))
 }
 
 // The data of a part ISG1, OSG1 or PSG1 alone: 43 to 45 and 52.
-#[unsafe(no_mangle)]
-pub extern "C" fn qollqamir_sg1_read(d: &[u8]) -> CSignature
+pub fn qollqamir_sg1_read(d: &[u8]) -> CSignature
     ensures { result ≡ c_signature (signature_of d.now) }
 {
     c_signature(signature::read(d))
 }
 
 // Element i of such data: 43 to 45 and 52, then 26.
-#[unsafe(no_mangle)]
-pub extern "C" fn qollqamir_sg1_element(d: &[u8], i: usize) -> CSignatureElement
+pub fn qollqamir_sg1_element(d: &[u8], i: usize) -> CSignatureElement
     ensures { result ≡ c_signature_element (element_of d.now i) }
 {
     c_signature_element(signature::element(d, i))
 }
 
 // Element i of such data by itself: 43, 26, 44 of its own bytes, 45 and 52 of its own name.
-#[unsafe(no_mangle)]
-pub extern "C" fn qollqamir_sg1_element_alone(d: &[u8], i: usize) -> CSignatureElement
+pub fn qollqamir_sg1_element_alone(d: &[u8], i: usize) -> CSignatureElement
     ensures { result ≡ c_signature_element (alone_of d.now i) }
 {
     c_signature_element(signature::element_alone(d, i))
 }
 
 // The name of element i of such data: 43 to 45 and 52, then 26.
-#[unsafe(no_mangle)]
-pub extern "C" fn qollqamir_sg1_name(d: &[u8], i: usize) -> CSpan
+pub fn qollqamir_sg1_name(d: &[u8], i: usize) -> CSpan
     ensures { result ≡ c_span (name_view (element_of d.now i)) }
 {
     c_span(signature::name(d, i))
 }
 
 // The report on a container's signature part at an edition, 0 ISG1, 1 OSG1, 2 PSG1: what opening gives, 26, then 43 to 45 and 52.
-#[unsafe(no_mangle)]
-pub extern "C" fn qollqamir_signature(b: &[u8], edition: usize, part: u32) -> CSignatureReport
+pub fn qollqamir_signature(b: &[u8], edition: usize, part: u32) -> CSignatureReport
     ensures { result ≡ report_numbered part edition b.now }
 {
     if 2 < part {
@@ -1691,8 +1654,7 @@ pub extern "C" fn qollqamir_signature(b: &[u8], edition: usize, part: u32) -> CS
 }
 
 // Element i of the part, its name as a stretch of the container: those of the report, then 26.
-#[unsafe(no_mangle)]
-pub extern "C" fn qollqamir_signature_element(
+pub fn qollqamir_signature_element(
     b: &[u8],
     edition: usize,
     part: u32,
@@ -1707,8 +1669,7 @@ pub extern "C" fn qollqamir_signature_element(
 }
 
 // The name of element i of the part as a stretch of the container: those of the report, then 26.
-#[unsafe(no_mangle)]
-pub extern "C" fn qollqamir_signature_name(b: &[u8], edition: usize, part: u32, i: usize) -> CSpan
+pub fn qollqamir_signature_name(b: &[u8], edition: usize, part: u32, i: usize) -> CSpan
     ensures { result ≡ c_span (name_view (element_numbered part edition b.now i)) }
 {
     if 2 < part {
@@ -1719,8 +1680,7 @@ pub extern "C" fn qollqamir_signature_name(b: &[u8], edition: usize, part: u32, 
 
 // The first named element of the part whose name differs from that of PSV0's element of the same list and number, or is missing there: after the
 // refusals of the report.
-#[unsafe(no_mangle)]
-pub extern "C" fn qollqamir_signature_difference(b: &[u8], edition: usize, part: u32) -> CDifference
+pub fn qollqamir_signature_difference(b: &[u8], edition: usize, part: u32) -> CDifference
     ensures { result ≡ difference_numbered part edition b.now }
 {
     if 2 < part {
@@ -1736,104 +1696,91 @@ pub extern "C" fn qollqamir_signature_difference(b: &[u8], edition: usize, part:
 }
 
 // A settings file: 53 to 60.
-#[unsafe(no_mangle)]
-pub extern "C" fn qollqamir_settings_read(d: &[u8]) -> CSettings
+pub fn qollqamir_settings_read(d: &[u8]) -> CSettings
     ensures { result ≡ c_settings (settings_of d.now) }
 {
     c_settings(settings_reader::read(d))
 }
 
 // Row i of a settings file: 53 to 60, then 26.
-#[unsafe(no_mangle)]
-pub extern "C" fn qollqamir_settings_row(d: &[u8], i: usize) -> CSettingsRow
+pub fn qollqamir_settings_row(d: &[u8], i: usize) -> CSettingsRow
     ensures { result ≡ c_settings_row (row_answer_of d.now i) }
 {
     c_settings_row(settings_reader::row(d, i))
 }
 
 // The row at a byte of a settings file by itself, after a row of version last: 53 to 55 and 57 to 59 of its own.
-#[unsafe(no_mangle)]
-pub extern "C" fn qollqamir_settings_row_alone(d: &[u8], at: usize, last: u32) -> CSettingsRowAlone
+pub fn qollqamir_settings_row_alone(d: &[u8], at: usize, last: u32) -> CSettingsRowAlone
     ensures { result ≡ c_settings_row_alone (row_alone_of d.now at last) }
 {
     c_settings_row_alone(settings_reader::row_alone(d, at, last))
 }
 
 // The value of a key at a version: 53 to 60; unset where no row tells it.
-#[unsafe(no_mangle)]
-pub extern "C" fn qollqamir_settings_value(d: &[u8], key: u32, version: u32) -> CSetting
+pub fn qollqamir_settings_value(d: &[u8], key: u32, version: u32) -> CSetting
     ensures { result ≡ c_setting (setting_answer_of d.now key version) }
 {
     c_setting(settings_reader::value(d, key, version))
 }
 
 // The data of a part RTS0 alone: 46 to 51.
-#[unsafe(no_mangle)]
-pub extern "C" fn qollqamir_rts0_read(d: &[u8]) -> CRoot
+pub fn qollqamir_rts0_read(d: &[u8]) -> CRoot
     ensures { result ≡ c_root (root_of d.now) }
 {
     c_root(root_signature::read(d))
 }
 
 // Item i of such data: 46 to 51, then 26.
-#[unsafe(no_mangle)]
-pub extern "C" fn qollqamir_rts0_item(d: &[u8], i: usize) -> CItem
+pub fn qollqamir_rts0_item(d: &[u8], i: usize) -> CItem
     ensures { result ≡ c_item (item_of d.now i) }
 {
     c_item(root_signature::item(d, i))
 }
 
 // Item i of such data by itself: 46, 47, 26, then 48 to 51 of its own.
-#[unsafe(no_mangle)]
-pub extern "C" fn qollqamir_rts0_item_alone(d: &[u8], i: usize) -> CItem
+pub fn qollqamir_rts0_item_alone(d: &[u8], i: usize) -> CItem
     ensures { result ≡ c_item (item_alone_of d.now i) }
 {
     c_item(root_signature::item_alone(d, i))
 }
 
 // Range j of item i of such data: 46 to 51, then 26.
-#[unsafe(no_mangle)]
-pub extern "C" fn qollqamir_rts0_range(d: &[u8], i: usize, j: usize) -> CRange
+pub fn qollqamir_rts0_range(d: &[u8], i: usize, j: usize) -> CRange
     ensures { result ≡ c_range (range_answer_of d.now i j) }
 {
     c_range(root_signature::range(d, i, j))
 }
 
 // Range j of item i of such data by itself: what the item by itself gives, then 26.
-#[unsafe(no_mangle)]
-pub extern "C" fn qollqamir_rts0_range_alone(d: &[u8], i: usize, j: usize) -> CRange
+pub fn qollqamir_rts0_range_alone(d: &[u8], i: usize, j: usize) -> CRange
     ensures { result ≡ c_range (range_alone_of d.now i j) }
 {
     c_range(root_signature::range_alone(d, i, j))
 }
 
 // The report on a container's root signature at an edition: what opening gives, 26, then 46 to 51.
-#[unsafe(no_mangle)]
-pub extern "C" fn qollqamir_root_signature(b: &[u8], edition: usize) -> CRootReport
+pub fn qollqamir_root_signature(b: &[u8], edition: usize) -> CRootReport
     ensures { result ≡ c_root_report (root_report_of edition b.now) }
 {
     c_root_report(root_signature_report::report(b, edition))
 }
 
 // Item i of it: those of the report, then 26.
-#[unsafe(no_mangle)]
-pub extern "C" fn qollqamir_root_item(b: &[u8], edition: usize, i: usize) -> CItem
+pub fn qollqamir_root_item(b: &[u8], edition: usize, i: usize) -> CItem
     ensures { result ≡ c_item (item_report_of edition b.now i) }
 {
     c_item(root_signature_report::item(b, edition, i))
 }
 
 // Range j of item i of it: those of the report, then 26.
-#[unsafe(no_mangle)]
-pub extern "C" fn qollqamir_root_range(b: &[u8], edition: usize, i: usize, j: usize) -> CRange
+pub fn qollqamir_root_range(b: &[u8], edition: usize, i: usize, j: usize) -> CRange
     ensures { result ≡ c_range (range_report_of edition b.now i j) }
 {
     c_range(root_signature_report::range(b, edition, i, j))
 }
 
 // Writes PSV0 data.
-#[unsafe(no_mangle)]
-pub extern "C" fn qollqamir_write_psv0(
+pub fn qollqamir_write_psv0(
     edition: usize,
     runtime: &[u8],
     resources: &[u8],
@@ -1852,8 +1799,7 @@ pub extern "C" fn qollqamir_write_psv0(
 }
 
 // Assembles a container.
-#[unsafe(no_mangle)]
-pub extern "C" fn qollqamir_assemble(
+pub fn qollqamir_assemble(
     names: &[u8],
     sizes: &[u32],
     data: &[u8],
@@ -1867,8 +1813,7 @@ pub extern "C" fn qollqamir_assemble(
 }
 
 // A container with other PSV0 data in the place of its own.
-#[unsafe(no_mangle)]
-pub extern "C" fn qollqamir_replace_psv0(
+pub fn qollqamir_replace_psv0(
     b: &[u8],
     edition: usize,
     new: &[u8],
@@ -1881,8 +1826,7 @@ pub extern "C" fn qollqamir_replace_psv0(
 }
 
 // Writes a settings file from rows as numbers, three a row.
-#[unsafe(no_mangle)]
-pub extern "C" fn qollqamir_write_settings(rows: &[u32], out: &mut [u8]) -> CWritten
+pub fn qollqamir_write_settings(rows: &[u32], out: &mut [u8]) -> CWritten
     ensures value { result ≡ c_settings_written (settings_writing.answer rows.now (length out.old)) }
     ensures out_after { out.new ≡ settings_writing.output rows.now out.old }
 {
@@ -1890,24 +1834,21 @@ pub extern "C" fn qollqamir_write_settings(rows: &[u32], out: &mut [u8]) -> CWri
 }
 
 // Figures of no container, at an edition.
-#[unsafe(no_mangle)]
-pub extern "C" fn qollqamir_figures_start(edition: usize) -> Figures
+pub fn qollqamir_figures_start(edition: usize) -> Figures
     ensures { result ≡ started edition }
 {
     figures_counter::start(edition)
 }
 
 // One container more, opened at the figures' edition.
-#[unsafe(no_mangle)]
-pub extern "C" fn qollqamir_figures_add(f: Figures, b: &[u8]) -> CAdded
+pub fn qollqamir_figures_add(f: Figures, b: &[u8]) -> CAdded
     ensures { result ≡ c_added (added f b.now) }
 {
     c_added(figures_counter::add(f, b))
 }
 
 // Two figures joined.
-#[unsafe(no_mangle)]
-pub extern "C" fn qollqamir_figures_join(f: Figures, g: Figures) -> CJoined
+pub fn qollqamir_figures_join(f: Figures, g: Figures) -> CJoined
     ensures { result ≡ c_joined (joined f g) }
 {
     c_joined(figures_counter::join(f, g))
