@@ -1,4 +1,4 @@
-//! Links `target/staticlib/libqollqamir.a`, which `rt staticlib qollqamir` makes at the top of the repository.
+//! Links `target/staticlib/libqollqamir.a`, which `tools/build archive` makes at the top of the repository.
 
 use std::path::Path;
 
@@ -9,7 +9,7 @@ fn main() {
     println!("cargo:rerun-if-changed={}", archive.display());
     println!("cargo:rerun-if-changed=build.rs");
     if !archive.is_file() {
-        eprintln!("target/staticlib/libqollqamir.a is missing: run `rt staticlib qollqamir` at the top of the repository");
+        eprintln!("target/staticlib/libqollqamir.a is missing: run `tools/build archive` at the top of the repository");
         std::process::exit(1);
     }
     println!("cargo:rustc-link-search=native={}", folder.display());
