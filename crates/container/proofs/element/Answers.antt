@@ -1,8 +1,7 @@
-use mathlib.Core.Path.{◌∙◌, refl}
+use mathlib.Core.Path.{◌∙◌}
 use native.Mathlib.Omega.{arith}
 use Rattle.container.proofs.Queries.{order, inside, data_is, alone, no_element_lem}
 use Rattle.psv0_layout.specs.Answers.{element_answer_of}
-use borrow.Author.Rules.{rules}
 use Rattle.container.proofs.element.Goals as goal
 
 pub slice_bounds-element-count : goal.slice_bounds-element-count

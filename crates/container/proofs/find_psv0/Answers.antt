@@ -1,4 +1,3 @@
-use borrow.Author.Rules.{rules}
 use Rattle.container.proofs.Openings.{no_edition}
 use Rattle.container.proofs.find_psv0.Goals as goal
 

@@ -1,8 +1,7 @@
-use mathlib.Core.Path.{◌∙◌, refl}
+use mathlib.Core.Path.{◌∙◌}
 use native.Mathlib.Omega.{arith}
 use Rattle.container.proofs.Queries.{order, inside, data_is, alone, no_lengths}
 use Rattle.psv0_layout.specs.Answers.{lengths_answer_of}
-use borrow.Author.Rules.{rules}
 use Rattle.container.proofs.lengths.Goals as goal
 
 pub slice_bounds-lengths-count : goal.slice_bounds-lengths-count

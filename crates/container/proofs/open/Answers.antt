@@ -1,7 +1,6 @@
-use mathlib.Core.Path.{◌∙◌, refl}
+use mathlib.Core.Path.{◌∙◌}
 use native.Mathlib.Omega.{arith}
 use Rattle.container.proofs.Queries.{order, inside, data_is, no_opening, opening_is}
-use borrow.Author.Rules.{rules}
 use Rattle.container.proofs.open.Goals as goal
 
 pub slice_bounds-open-count : goal.slice_bounds-open-count

@@ -1,7 +1,6 @@
-use mathlib.Core.Path.{◌∙◌, refl}
+use mathlib.Core.Path.{◌∙◌}
 use native.Mathlib.Omega.{arith}
 use Rattle.container.proofs.Queries.{order, inside, data_is, no_places_lem, psv0_short, places_are}
-use borrow.Author.Rules.{rules}
 use Rattle.container.proofs.open_places.Goals as goal
 
 pub slice_bounds-open_places-count : goal.slice_bounds-open_places-count

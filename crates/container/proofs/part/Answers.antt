@@ -1,6 +1,5 @@
 use mathlib.Core.Path.{◌∙◌, ap}
 use native.Mathlib.Omega.{arith}
-use borrow.Author.Rules.{rules}
 use Rattle.psv0_layout.specs.declared.Opening.{Opening}
 use Rattle.part_table_layout.proofs.Threes.{three_third}
 use Rattle.container.proofs.Queries.{order, inside, data_is, no_part, no_edition_part, part_is}

@@ -1,6 +1,5 @@
 use native.Mathlib.Omega.{arith}
 use Rattle.container_layout.proofs.Parts.{part_short, part_fits, no_data, part_data}
-use borrow.Author.Rules.{rules}
 use Rattle.container.proofs.part_bytes_occurrence.Goals as goal
 
 pub overflow_add-start : goal.overflow_add-start
@@ -9,9 +8,8 @@ overflow_add-start c = omega (arith, part_short _ _ _ _ c.part_occurrence-p.ensu
 pub overflow_add-end : goal.overflow_add-end
 overflow_add-end c = omega (arith, part_short _ _ _ _ c.part_occurrence-p.ensures c.in-Accepted.is)
 
--- ?? slice-bounds-result-end-2
-pub part-result-end-2 : goal.part-result-end-2
-part-result-end-2 c = omega (arith, part_fits _ _ _ _ c.before.before.part-occurrence.ensures c.enum-told2.given.1)
+pub slice_bounds-result-end-in-Accepted : goal.slice_bounds-result-end-in-Accepted
+slice_bounds-result-end-in-Accepted c = omega (arith, part_fits _ _ _ _ c.part_occurrence-p.ensures c.in-Accepted.is)
 
 pub returns-in-Refused : goal.returns-in-Refused
 returns-in-Refused c = no_data _ _ _ _ c.part_occurrence-p.ensures c.in-Refused.is

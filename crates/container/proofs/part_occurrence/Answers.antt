@@ -1,5 +1,4 @@
 use mathlib.Core.Path.{◌∙◌}
-use borrow.Author.Rules.{rules}
 use Rattle.container_layout.proofs.Parts.{later_part_lem}
 use Rattle.container.proofs.part_occurrence.Goals as goal
 

@@ -1,5 +1,4 @@
 use native.Mathlib.Omega.{arith}
-use borrow.Author.Rules.{rules}
 use Rattle.container.proofs.Openings.{no_table, no_program, no_validation, short, found_psv0}
 use Rattle.container.proofs.psv0_in.Goals as goal
 

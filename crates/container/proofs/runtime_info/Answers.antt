@@ -1,8 +1,7 @@
-use mathlib.Core.Path.{◌∙◌, refl}
+use mathlib.Core.Path.{◌∙◌}
 use native.Mathlib.Omega.{arith}
 use Rattle.container.proofs.Queries.{order, inside, data_is, alone, no_info}
 use Rattle.psv0_layout.specs.Answers.{info_answer_of}
-use borrow.Author.Rules.{rules}
 use Rattle.container.proofs.runtime_info.Goals as goal
 
 pub slice_bounds-runtime_info-count : goal.slice_bounds-runtime_info-count

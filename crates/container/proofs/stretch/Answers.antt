@@ -1,5 +1,4 @@
 use Rattle.container.proofs.Queries.{end_less}
-use borrow.Author.Rules.{rules}
 use Rattle.container.proofs.stretch.Goals as goal
 
 pub returns : goal.returns

@@ -1,7 +1,6 @@
-use mathlib.Core.Path.{◌∙◌, refl}
+use mathlib.Core.Path.{refl}
 use native.Mathlib.Omega.{arith}
 use Rattle.container.proofs.Queries.{order, inside, start_short, no_view, view_shows}
-use borrow.Author.Rules.{rules}
 use Rattle.container.proofs.view_span.Goals as goal
 
 pub slice_bounds-view_span-count : goal.slice_bounds-view_span-count
