@@ -1,7 +1,6 @@
 use mathlib.Core.Path.{◌∙◌, ap}
 use Rattle.dxil_layout.specs.Program.{bitcode_of}
 use Rattle.dxil_report_layout.proofs.Steps.{bitcode_is}
-use borrow.Author.Rules.{rules}
 use Rattle.dxil_report.proofs.bitcode.Goals as goal
 
 pub returns : goal.returns

@@ -1,5 +1,4 @@
 use Rattle.dxil_report_layout.proofs.Steps.{stages_equal, stages_different}
-use borrow.Author.Rules.{rules}
 use Rattle.dxil_report.proofs.compared.Goals as goal
 
 pub returns-then-stage-n : goal.returns-then-stage-n

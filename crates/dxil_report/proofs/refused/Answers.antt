@@ -1,4 +1,3 @@
-use borrow.Author.Rules.{rules}
 use Rattle.dxil_report.proofs.refused.Goals as goal
 
 pub returns : goal.returns

@@ -2,7 +2,6 @@ use mathlib.Core.Path.{◌∙◌}
 use native.Mathlib.Omega.{arith}
 use Rattle.container_layout.proofs.Parts.{part_fits, part_short}
 use Rattle.dxil_report_layout.proofs.Steps.{part_refused, program_refused, bitcode_short, program_accepted}
-use borrow.Author.Rules.{rules}
 use Rattle.dxil_report.proofs.report.Goals as goal
 
 pub overflow_add-start : goal.overflow_add-start
@@ -14,9 +13,8 @@ overflow_add-end c = omega (arith, part_short _ _ _ _ c.part-part.ensures c.in_d
 pub slice_bounds-read-end : goal.slice_bounds-read-end
 slice_bounds-read-end c = omega (arith, part_fits _ _ _ _ c.part-part.ensures c.in_default.is)
 
--- ?? overflow-add-t23
-pub add-t23 : goal.add-t23
-add-t23 c = omega (arith, bitcode_short _ _ c.before.before.before.before.before.before.before.before.before.before.before.part.ensures c.before.before.before.before.before.before.before.before.before.enum_told.given.1 c.before.before.before.before.before.before.before.read.ensures c.before.before.before.before.before.enum-told2.given.1)
+pub overflow_add-result : goal.overflow_add-result
+overflow_add-result c = omega (arith, bitcode_short _ _ c.part-part.ensures c.in_default.is c.read-p.ensures c.in_default-judged.is)
 
 pub returns-in-Refused : goal.returns-in-Refused
 returns-in-Refused c = c.refused.ensures ∙ part_refused _ _ c.part-part.ensures c.in-Refused.is

@@ -1,4 +1,3 @@
-use borrow.Author.Rules.{rules}
 use Rattle.root_signature_report.proofs.no_report.Goals as goal
 
 pub returns : goal.returns

@@ -2,7 +2,6 @@ use mathlib.Core.Path.{◌∙◌}
 use native.Mathlib.Omega.{arith}
 use Rattle.container_layout.proofs.Parts.{part_fits, part_short}
 use Rattle.root_signature_report_layout.proofs.Steps.{part_no_range, range_is}
-use borrow.Author.Rules.{rules}
 use Rattle.root_signature_report.proofs.range.Goals as goal
 
 pub returns-in-Refused : goal.returns-in-Refused

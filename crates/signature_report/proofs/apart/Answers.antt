@@ -1,6 +1,5 @@
 use mathlib.Core.Path.{sym}
 use native.Mathlib.Nat.{div-zero}
-use borrow.Author.Rules.{rules}
 use Rattle.signature_report.proofs.apart.Goals as goal
 
 pub returns-then-n-eq0 : goal.returns-then-n-eq0

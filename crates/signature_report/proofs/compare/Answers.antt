@@ -1,7 +1,6 @@
 use Prim.Native.Nat.{◌+◌, ◌≤◌}
 use native.Mathlib.Omega.{arith}
 use Rattle.signature_report_layout.proofs.Placed.{list_short, list_inside, list_is}
-use borrow.Author.Rules.{rules}
 use Rattle.signature_report.proofs.compare.Goals as goal
 
 pub search-requires : goal.search-requires

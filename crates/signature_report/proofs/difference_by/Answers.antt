@@ -1,5 +1,4 @@
 use mathlib.Core.Path.{◌∙◌}
-use borrow.Author.Rules.{rules}
 use Rattle.signature_report_layout.proofs.Placed.{data_refused, data_judged_lem, data_passed}
 use Rattle.signature_report.proofs.difference_by.Goals as goal
 

@@ -1,5 +1,4 @@
 use mathlib.Core.Path.{◌∙◌}
-use borrow.Author.Rules.{rules}
 use Rattle.signature_report_layout.proofs.Placed.{no_record, no_table, no_records, all_there}
 use Rattle.signature_report.proofs.difference_in.Goals as goal
 

@@ -2,7 +2,6 @@ use mathlib.Core.Path.{◌∙◌}
 use native.Mathlib.Omega.{arith}
 use Rattle.container_layout.proofs.Parts.{part_fits, part_short}
 use Rattle.signature_report_layout.proofs.Steps.{part_no_element, element_room, element_moved}
-use borrow.Author.Rules.{rules}
 use Rattle.signature_report.proofs.element.Goals as goal
 
 pub overflow_add-start : goal.overflow_add-start

@@ -1,6 +1,5 @@
 use mathlib.Core.Path.{◌∙◌}
 use native.Mathlib.Omega.{arith}
-use borrow.Author.Rules.{rules}
 use Rattle.container.proofs.Openings.{places_are}
 use Rattle.signature_report_layout.proofs.Placed.{part_no_difference, part_inside, part_opens, part_difference}
 use Rattle.signature_report.proofs.first_difference.Goals as goal

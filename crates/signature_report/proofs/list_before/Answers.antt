@@ -1,4 +1,3 @@
-use borrow.Author.Rules.{rules}
 use Rattle.signature_report.proofs.list_before.Goals as goal
 
 pub returns-in-Patch : goal.returns-in-Patch

@@ -1,6 +1,5 @@
 use native.Mathlib.Omega.{arith}
 use Rattle.signature_report_layout.proofs.Steps.{stays, moves}
-use borrow.Author.Rules.{rules}
 use Rattle.signature_report.proofs.moved_by.Goals as goal
 
 pub overflow_add-at : goal.overflow_add-at

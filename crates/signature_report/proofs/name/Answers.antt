@@ -1,7 +1,6 @@
 use mathlib.Core.Path.{◌∙◌, ap}
 use Rattle.signature_layout.specs.Signature.{view_of}
 use Rattle.signature_layout.specs.declared.SignatureAnswer.{SignatureAnswer}
-use borrow.Author.Rules.{rules}
 use Rattle.signature_report.proofs.name.Goals as goal
 
 pub returns : goal.returns

@@ -1,4 +1,3 @@
-use borrow.Author.Rules.{rules}
 use Rattle.signature_report.proofs.part_of.Goals as goal
 
 pub returns-in-Input : goal.returns-in-Input

@@ -2,7 +2,6 @@ use mathlib.Core.Path.{◌∙◌}
 use native.Mathlib.Omega.{arith}
 use Rattle.container_layout.proofs.Parts.{part_fits, part_short}
 use Rattle.signature_report_layout.proofs.Steps.{part_refused, data_refused, data_accepted}
-use borrow.Author.Rules.{rules}
 use Rattle.signature_report.proofs.report.Goals as goal
 
 pub overflow_add-start : goal.overflow_add-start

@@ -1,12 +1,7 @@
-use Prim.Native.Nat.{◌-◌}
 use mathlib.Core.Path.{sym, ◌∙◌}
 use native.Mathlib.Omega.{arith}
-use borrow.Author.Rules.{rules}
-use Rattle.wire.proofs.Searches.{Searched, begin, more}
-use Rattle.signature_layout.specs.Signature.{count_of}
+use Rattle.wire.proofs.Searches.{begin, more}
 use Rattle.signature_layout.proofs.Signatures.{element_inside_lem}
-use Rattle.signature_report_layout.specs.Listed.{listed}
-use Rattle.signature_report_layout.specs.Reported.{differs_at}
 use Rattle.signature_report_layout.proofs.Steps.{found_first, found_none}
 use Rattle.signature_report.proofs.search.Goals as goal
 
