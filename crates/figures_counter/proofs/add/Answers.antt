@@ -1,6 +1,5 @@
 use Rattle.figures_counter.proofs.Answers.{full_answer, added_answer}
 use Rattle.figures_counter.proofs.Steps.{in_range_lem}
-use borrow.Author.Rules.{rules}
 use Rattle.figures_counter.proofs.add.Goals as goal
 
 pub returns-then-f-ge65535 : goal.returns-then-f-ge65535

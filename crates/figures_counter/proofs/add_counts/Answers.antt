@@ -1,8 +1,5 @@
-use Prim.Native.Nat.{◌-◌}
-use lib.ListN.{length}
-use borrow.Author.Rules.{rules}
 use native.Mathlib.Omega.{arith}
-use Rattle.figures_counter.proofs.Sums.{Summing, summing_begin, summing_more, summing_done}
+use Rattle.figures_counter.proofs.Sums.{summing_begin, summing_more, summing_done}
 use Rattle.figures_counter.proofs.add_counts.Goals as goal
 
 pub loop-i-init : goal.loop-i-init

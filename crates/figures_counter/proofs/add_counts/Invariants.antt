@@ -1,8 +1,6 @@
 use Prim.Native.Nat.{◌-◌}
 use lib.ListN.{length}
-use borrow.Author.Rules.{rules}
-use native.Mathlib.Omega.{arith}
-use Rattle.figures_counter.proofs.Sums.{Summing, summing_begin, summing_more, summing_done}
+use Rattle.figures_counter.proofs.Sums.{Summing}
 use Rattle.figures_counter.proofs.add_counts.Given as goal
 
 abbrev pub invariant-loop-i : goal.invariant-loop-i

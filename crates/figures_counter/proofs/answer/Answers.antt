@@ -1,7 +1,6 @@
 use mathlib.Core.Path.{◌∙◌}
 use Rattle.figures_layout.proofs.Openings.{refused_answer, place_short, accepted_answer}
 use native.Mathlib.Omega.{arith}
-use borrow.Author.Rules.{rules}
 use Rattle.figures_counter.proofs.answer.Goals as goal
 
 pub returns-in-Refused : goal.returns-in-Refused

@@ -1,7 +1,6 @@
 use mathlib.Core.Path.{◌∙◌}
 use native.Mathlib.Omega.{arith}
 use Rattle.figures_counter.proofs.Steps.{refused_one, accepted_one}
-use borrow.Author.Rules.{rules}
 use Rattle.figures_counter.proofs.count.Goals as goal
 
 pub count_refused-requires : goal.count_refused-requires

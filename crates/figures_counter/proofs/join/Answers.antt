@@ -1,5 +1,4 @@
 use Rattle.figures_counter.proofs.Answers.{other_answer, room_answer, joined_answer}
-use borrow.Author.Rules.{rules}
 use Rattle.figures_counter.proofs.join.Goals as goal
 
 pub returns-then-f-g : goal.returns-then-f-g

@@ -1,5 +1,4 @@
 use Rattle.figures_counter.proofs.Sums.{sum_low, sum_high}
-use borrow.Author.Rules.{rules}
 use Rattle.figures_counter.proofs.sum.Goals as goal
 
 pub returns-then-b-a : goal.returns-then-b-a
