@@ -4,7 +4,7 @@ use lib.ListN.{length}
 use Rattle.figures.proofs.counts.Given as goal
 
 abbrev pub invariant-loop-i : goal.invariant-loop-i
-invariant-loop-i l = i ≤ length l.table
+invariant-loop-i l = l.i ≤ length l.table
 
 abbrev pub decreases-loop-i : goal.decreases-loop-i
-decreases-loop-i l = length l.table - i
+decreases-loop-i l = length l.table - l.i

@@ -16,7 +16,7 @@ returns-in-Refused c =
 
 pub put_parts-len-requires : goal.put_parts-len-requires
 put_parts-len-requires c =
-    let few = c.accepted-line.ensures.len_bound.0 in
+    let few = c.accepted-line.ensures.len_bound in
     let end = c.put_line-end.ensures.value in
     record { at_in_bounds = omega arith; b_value = table_passed _ (omega arith) c.open-o.ensures c.in_default.is; }
 
@@ -25,5 +25,5 @@ returns c =
     let first = c.put_line-end.ensures in
     let rest = c.put_parts-len.ensures in
     let o = c.open-o.ensures in
-    let made = listing_made _ _ c.accepted-line.ensures.value c.accepted-line.ensures.len_bound.0 first.0 first.1 rest.0 rest.1.0 rest.1.1 in
+    let made = listing_made _ _ c.accepted-line.ensures.value c.accepted-line.ensures.len_bound first.out_after first.value rest.out_after rest.value rest.b_len_bound in
     record { value = made ∙ ap output_of (prints_table _ (omega arith) o c.in_default.is); prefix_len = output_counts _ made; }
