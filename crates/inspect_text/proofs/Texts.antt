@@ -24,7 +24,6 @@ use Rattle.part_table_layout.specs.declared.Table.{Table}
 use Rattle.part_table_layout.proofs.Accepted.{accepted_told, table_accepted}
 use Rattle.part_table_layout.proofs.Filled.{filled_below}
 use Rattle.wire.specs.Number.{placed}
-use Rattle.wire.specs.declared.Verdict.{Verdict}
 use Rattle.wire.specs.declared.Verdict.TheVariants.{Accepted, Refused}
 use Rattle.wire.proofs.Numbers.{placed_in}
 use Rattle.wire.proofs.Stretches.{placed_front}

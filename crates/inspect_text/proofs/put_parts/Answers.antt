@@ -1,9 +1,7 @@
-use Prim.Native.Nat.{◌-◌, ◌≤◌}
 use mathlib.Core.Path.{◌∙◌, ap}
 use native.Mathlib.Omega.{arith}
-use borrow.Author.Rules.{rules}
 use Rattle.lines.specs.Line.{line_of}
-use Rattle.inspect_text.proofs.Texts.{count_is, count_few, entry_line, Listed, none_listed, more_listed, all_listed}
+use Rattle.inspect_text.proofs.Texts.{count_is, count_few, entry_line, none_listed, more_listed, all_listed}
 use Rattle.inspect_text.proofs.put_parts.Goals as goal
 
 pub loop-i-init : goal.loop-i-init
