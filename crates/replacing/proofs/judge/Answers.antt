@@ -3,7 +3,6 @@ use native.Mathlib.Omega.{arith}
 use Rattle.container_layout.specs.Container.{psv0}
 use Rattle.container_layout.proofs.Parts.{part_fits}
 use Rattle.replacing_layout.proofs.Checks.{not_opened, not_plain, too_long, no_room, all_pass}
-use borrow.Author.Rules.{rules}
 use Rattle.replacing.proofs.judge.Goals as goal
 
 pub returns-in-Refused : goal.returns-in-Refused

@@ -1,5 +1,4 @@
 use Rattle.replacing_layout.proofs.Measuring.{new_refused, new_plain, new_other}
-use borrow.Author.Rules.{rules}
 use Rattle.replacing.proofs.judge_new.Goals as goal
 
 pub returns-in-Refused : goal.returns-in-Refused

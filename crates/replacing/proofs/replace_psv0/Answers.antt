@@ -1,23 +1,12 @@
-use lib.ListN.{length}
-use Rattle.replacing_layout.specs.Answer.{Replaceable}
 use native.Mathlib.Omega.{arith}
 use Rattle.replacing_layout.proofs.Checks.{refuses, may_replace, fits, room, replaces_psv}
-use borrow.Author.Rules.{rules}
 use Rattle.replacing.proofs.replace_psv0.Goals as goal
 
--- the part, where every check passed
-may : (c : tie.After-enum-told)
-    → Replaceable c.before.before.before.before.before.before.before.before.args.b.now c.before.before.before.part.result.number
-    c.before.before.before.part.result.offset c.before.before.before.part.result.size
-    (length c.before.before.before.before.before.before.before.before.args.new.now)
-may m =
-    let j = m.before.before in
-    let t = j.before in
-    let p = t.before.before.before.before.before.args in
-    may_replace p.edition p.b.now p.new.now p.out.now t.part.ensures j.judge.ensures m.enum_told.given.1
-
 pub overflow_sub-len : goal.overflow_sub-len
-overflow_sub-len c = let f = may c in omega arith
+overflow_sub-len c =
+    let p = c.args in
+    let f = may_replace p.edition p.b.now p.new.now p.out.now c.part-part.ensures c.judge-verdict.ensures c.in-Accepted.is in
+    omega arith
 
 pub slice_bounds-write-end : goal.slice_bounds-write-end
 slice_bounds-write-end c =
@@ -28,13 +17,19 @@ slice_bounds-write-end c =
 pub write-requires : goal.write-requires
 write-requires c =
     let p = c.args in
-    (may c, room p.edition p.b.now p.new.now p.out.now c.part-part.ensures c.judge-verdict.ensures c.in-Accepted.is)
+    (may_replace p.edition p.b.now p.new.now p.out.now c.part-part.ensures c.judge-verdict.ensures c.in-Accepted.is, room p.edition p.b.now p.new.now p.out.now c.part-part.ensures c.judge-verdict.ensures c.in-Accepted.is)
 
 pub overflow_add-at : goal.overflow_add-at
-overflow_add-at c = let f = may c in omega arith
+overflow_add-at c =
+    let p = c.args in
+    let f = may_replace p.edition p.b.now p.new.now p.out.now c.part-part.ensures c.judge-verdict.ensures c.in-Accepted.is in
+    omega arith
 
 pub overflow_cast-at : goal.overflow_cast-at
-overflow_cast-at c = let f = may c in omega arith
+overflow_cast-at c =
+    let p = c.args in
+    let f = may_replace p.edition p.b.now p.new.now p.out.now c.part-part.ensures c.judge-verdict.ensures c.in-Accepted.is in
+    omega arith
 
 pub returns-in-Refused : goal.returns-in-Refused
 returns-in-Refused c =

@@ -5,7 +5,6 @@ use native.Mathlib.Omega.{arith}
 use Rattle.wire.proofs.Stretches.{lent_length}
 use Rattle.part_table_layout.specs.Table.{count_of}
 use Rattle.replacing_layout.proofs.Writing.{head_written, offsets_written, part_written, all_laid}
-use borrow.Author.Rules.{rules}
 use Rattle.replacing.proofs.write.Goals as goal
 
 pub slice_bounds-write_offsets-count : goal.slice_bounds-write_offsets-count

@@ -1,6 +1,5 @@
 use mathlib.Core.Path.{◌∙◌}
 use Rattle.wire.proofs.Stretches.{copied_is}
-use borrow.Author.Rules.{rules}
 use Rattle.replacing.proofs.write_head.Goals as goal
 
 pub returns : goal.returns

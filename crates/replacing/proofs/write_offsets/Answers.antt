@@ -1,29 +1,21 @@
-use Prim.Native.Nat.{suc, ◌*◌, ◌-◌, ◌≤◌}
+use Prim.Native.Nat.{suc, ◌-◌}
 use native.Mathlib.Omega.{arith}
 use borrow.Author.Rules.{rules}
-use Rattle.wire.proofs.Stretches.{Written, none_written, written_length_lem, all_written}
+use Rattle.wire.proofs.Stretches.{none_written, written_length_lem, all_written}
 use mathlib.Core.Path.{◌≡◌}
 use Rattle.part_table_layout.specs.Table.{count_of, offset_bytes}
-use Rattle.replacing_layout.specs.Replaced.{moved_from}
-use Rattle.replacing_layout.proofs.Writing.{Later, later, offset_more}
+use Rattle.replacing_layout.proofs.Writing.{later, offset_more}
 use Rattle.replacing.proofs.write_offsets.Goals as goal
-
--- the offset that is read in a turn
-read : (c : tie.After-u32-at invariant-loop decreases-loop) → Later c.before.before.before.before.before.requires.0 c.u32-at.result
-read c =
-    let at = c.before.before in
-    let s = at.before.before.before in
-    later s.requires.0 at.loop.j (omega arith) c.u32-at.ensures
 
 pub loop-j-init : goal.loop-j-init
 unfolding offset_bytes
 loop-j-init c = (search rules, none_written _)
 
 pub overflow_sub-offset : goal.overflow_sub-offset
-overflow_sub-offset c = let f = read c in omega arith
+overflow_sub-offset c = let f = later c.requires.0 c.loop-j.j (omega arith) c.u32_at-offset.ensures in omega arith
 
 pub overflow_cast-offset-in-loop-j : goal.overflow_cast-offset-in-loop-j
-overflow_cast-offset-in-loop-j c = let f = read c in omega arith
+overflow_cast-offset-in-loop-j c = let f = later c.requires.0 c.loop-j.j (omega arith) c.u32_at-offset.ensures in omega arith
 
 pub loop-j-preserved : goal.loop-j-preserved
 loop-j-preserved c =

@@ -1,11 +1,6 @@
 use Prim.Native.Nat.{suc, ◌*◌, ◌-◌, ◌≤◌}
-use native.Mathlib.Omega.{arith}
-use borrow.Author.Rules.{rules}
-use Rattle.wire.proofs.Stretches.{Written, none_written, written_length_lem, all_written}
-use mathlib.Core.Path.{◌≡◌}
-use Rattle.part_table_layout.specs.Table.{count_of, offset_bytes}
+use Rattle.wire.proofs.Stretches.{Written}
 use Rattle.replacing_layout.specs.Replaced.{moved_from}
-use Rattle.replacing_layout.proofs.Writing.{Later, later, offset_more}
 use Rattle.replacing.proofs.write_offsets.Given as goal
 
 abbrev pub invariant-loop-j : goal.invariant-loop-j

@@ -6,7 +6,6 @@ use Rattle.wire.proofs.Numbers.{le32_length}
 use mathlib.Core.Path.{◌∙◌}
 use native.Mathlib.Omega.{arith}
 use Rattle.wire.proofs.Stretches.{none_written, written_copy, written_number, rest_copied}
-use borrow.Author.Rules.{rules}
 use Rattle.replacing.proofs.write_part.Goals as goal
 
 pub returns : goal.returns
