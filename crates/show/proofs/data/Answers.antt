@@ -7,7 +7,3 @@ overflow_add-start c = omega (arith, c.requires c.in-Accepted.is)
 
 pub overflow_add-end : goal.overflow_add-end
 overflow_add-end c = omega (arith, c.requires c.in-Accepted.is)
-
--- ?? slice-bounds-result-end-2
-pub part-result-end-2 : goal.part-result-end-2
-part-result-end-2 c = omega (arith, c.before.before.requires c.enum-told2.given.1)
