@@ -1,5 +1,4 @@
 use Prim.Native.Nat.{◌≤◌, ◌-◌}
-use borrow.Author.Rules.{rules}
 use Rattle.round_trip_runs.proofs.show_masks.Given as goal
 
 abbrev pub invariant-loop-i : goal.invariant-loop-i
