@@ -159,7 +159,8 @@ def main():
             here |= {it: it + "_lem" for it, crates in LEMMAS.items() if crate in crates}
         pattern = WORD if path.endswith(".rt") else TOKEN
         stay = foreign(text)
-        words = {m[0] for m in tokens(text, pattern, fields)}
+        # (a record's label meets nothing)
+        words = {m[0] for m in tokens(text, pattern, fields) if m[0] in here or not text.startswith(" = ", m.end())}
         used = collections.defaultdict(set)
         for it in words:
             if it in here and it not in stay:
