@@ -1350,11 +1350,7 @@ pub fn qollqamir_table_part(b: &[u8], name: &[u8; 4]) -> CPart
 }
 
 // The part with a name and an occurrence, from the table alone: 1 to 9, then 26.
-pub fn qollqamir_table_part_occurrence(
-    b: &[u8],
-    name: &[u8; 4],
-    occurrence: usize,
-) -> CPart
+pub fn qollqamir_table_part_occurrence(b: &[u8], name: &[u8; 4], occurrence: usize) -> CPart
     ensures { result ≡ c_part (occurrence_of b.now (u32_at name.now 0) occurrence) }
 {
     c_part(part_table::find_part_occurrence(b, name, occurrence))
@@ -1497,12 +1493,7 @@ pub fn qollqamir_places_lengths(b: &[u8], p: SectionPlaces) -> CLengths
 }
 
 // A view by its kind and number, by places. A mask takes no time but for finding it, so it is asked for by itself: one choice and no call.
-pub fn qollqamir_places_view(
-    b: &[u8],
-    p: SectionPlaces,
-    kind: u32,
-    number: usize,
-) -> CSpan
+pub fn qollqamir_places_view(b: &[u8], p: SectionPlaces, kind: u32, number: usize) -> CSpan
     ensures { CShows b.now (answered_by p b.now (question_of (view_of kind number))).verdict (bytes_of (shown_by p b.now (question_of (view_of kind number)))) (points_of (view_of kind number) (shown_by p b.now)) result }
 {
     if kind == 4 {
@@ -1813,12 +1804,7 @@ pub fn qollqamir_assemble(
 }
 
 // A container with other PSV0 data in the place of its own.
-pub fn qollqamir_replace_psv0(
-    b: &[u8],
-    edition: usize,
-    new: &[u8],
-    out: &mut [u8],
-) -> CReplaced
+pub fn qollqamir_replace_psv0(b: &[u8], edition: usize, new: &[u8], out: &mut [u8]) -> CReplaced
     ensures value { result ≡ c_replaced (replacement_of edition b.now new.now (length out.old)) }
     ensures out_after { out.new ≡ output_of edition b.now new.now out.old }
 {

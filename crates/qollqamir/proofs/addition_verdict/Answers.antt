@@ -1,6 +1,5 @@
 use mathlib.Core.Path.{sym, ap, ◌∙◌}
 use Rattle.qollqamir.specs.Boundary.{addition_verdict}
-use borrow.Author.Rules.{rules}
 use Rattle.qollqamir.proofs.addition_verdict.Goals as goal
 
 pub returns-in-Counted : goal.returns-in-Counted

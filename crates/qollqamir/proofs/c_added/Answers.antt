@@ -1,5 +1,4 @@
 use Rattle.qollqamir.specs.Boundary.{c_added}
-use borrow.Author.Rules.{rules}
 use Rattle.qollqamir.proofs.c_added.Goals as goal
 
 pub returns : goal.returns

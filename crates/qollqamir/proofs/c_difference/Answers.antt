@@ -1,5 +1,4 @@
 use Rattle.qollqamir.specs.Boundary.{c_difference}
-use borrow.Author.Rules.{rules}
 use Rattle.qollqamir.proofs.c_difference.Goals as goal
 
 pub returns-in-At : goal.returns-in-At

@@ -1,6 +1,5 @@
 use mathlib.Core.Path.{sym, ap}
 use Rattle.qollqamir.specs.Boundary.{c_field}
-use borrow.Author.Rules.{rules}
 use Rattle.qollqamir.proofs.c_field.Goals as goal
 
 pub returns-in-Set : goal.returns-in-Set

@@ -1,6 +1,5 @@
 use mathlib.Core.Path.{◌∙◌}
 use Rattle.qollqamir.specs.Boundary.{c_item}
-use borrow.Author.Rules.{rules}
 use Rattle.qollqamir.proofs.c_item.Goals as goal
 
 pub returns-in-Table : goal.returns-in-Table

@@ -1,4 +1,3 @@
-use borrow.Author.Rules.{rules}
 use Rattle.qollqamir.proofs.c_pairs.Goals as goal
 
 pub returns-then-counted : goal.returns-then-counted

@@ -1,5 +1,4 @@
 use Rattle.qollqamir.specs.Boundary.{c_program}
-use borrow.Author.Rules.{rules}
 use Rattle.qollqamir.proofs.c_program.Goals as goal
 
 pub returns : goal.returns

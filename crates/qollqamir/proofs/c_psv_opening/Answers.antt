@@ -1,5 +1,4 @@
 use Rattle.qollqamir.specs.Boundary.{c_psv_opening}
-use borrow.Author.Rules.{rules}
 use Rattle.qollqamir.proofs.c_psv_opening.Goals as goal
 
 pub returns : goal.returns

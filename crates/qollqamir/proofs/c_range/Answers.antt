@@ -1,5 +1,4 @@
 use Rattle.qollqamir.specs.Boundary.{c_range}
-use borrow.Author.Rules.{rules}
 use Rattle.qollqamir.proofs.c_range.Goals as goal
 
 pub returns : goal.returns

@@ -1,5 +1,4 @@
 use Rattle.qollqamir.specs.Boundary.{c_resource}
-use borrow.Author.Rules.{rules}
 use Rattle.qollqamir.proofs.c_resource.Goals as goal
 
 pub returns : goal.returns

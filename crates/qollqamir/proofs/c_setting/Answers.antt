@@ -1,5 +1,4 @@
 use Rattle.qollqamir.specs.Boundary.{c_setting}
-use borrow.Author.Rules.{rules}
 use Rattle.qollqamir.proofs.c_setting.Goals as goal
 
 pub returns : goal.returns

@@ -1,5 +1,4 @@
 use Rattle.qollqamir.specs.Boundary.{c_settings}
-use borrow.Author.Rules.{rules}
 use Rattle.qollqamir.proofs.c_settings.Goals as goal
 
 pub returns : goal.returns

@@ -1,5 +1,4 @@
 use Rattle.qollqamir.specs.Boundary.{c_settings_row_alone}
-use borrow.Author.Rules.{rules}
 use Rattle.qollqamir.proofs.c_settings_row_alone.Goals as goal
 
 pub returns : goal.returns

@@ -1,5 +1,4 @@
 use Rattle.qollqamir.specs.Boundary.{c_settings_written}
-use borrow.Author.Rules.{rules}
 use Rattle.qollqamir.proofs.c_settings_written.Goals as goal
 
 pub returns : goal.returns

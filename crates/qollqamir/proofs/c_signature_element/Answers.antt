@@ -1,5 +1,4 @@
 use Rattle.qollqamir.specs.Boundary.{c_signature_element}
-use borrow.Author.Rules.{rules}
 use Rattle.qollqamir.proofs.c_signature_element.Goals as goal
 
 pub returns : goal.returns

@@ -1,6 +1,5 @@
 use mathlib.Core.Path.{sym, ap}
 use Rattle.qollqamir.specs.Boundary.{c_verdict}
-use borrow.Author.Rules.{rules}
 use Rattle.qollqamir.proofs.c_verdict.Goals as goal
 
 pub returns-in-Accepted : goal.returns-in-Accepted

@@ -1,6 +1,5 @@
 use mathlib.Core.Path.{◌∙◌}
 use Rattle.qollqamir.proofs.Crossing.{opening_refused, opening_accepted}
-use borrow.Author.Rules.{rules}
 use Rattle.qollqamir.proofs.no_part.Goals as goal
 
 pub returns-in-Refused : goal.returns-in-Refused

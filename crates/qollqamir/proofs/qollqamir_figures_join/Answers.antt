@@ -1,6 +1,5 @@
 use mathlib.Core.Path.{◌∙◌, ap}
 use Rattle.qollqamir.specs.Boundary.{c_joined}
-use borrow.Author.Rules.{rules}
 use Rattle.qollqamir.proofs.qollqamir_figures_join.Goals as goal
 
 pub returns : goal.returns

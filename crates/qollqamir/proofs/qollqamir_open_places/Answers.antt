@@ -1,7 +1,6 @@
 use mathlib.Core.Path.{◌∙◌, ap}
 use Rattle.qollqamir.specs.Boundary.{c_opened}
 use Rattle.qollqamir.proofs.Crossing.{opened_small}
-use borrow.Author.Rules.{rules}
 use Rattle.qollqamir.proofs.qollqamir_open_places.Goals as goal
 
 pub c_opened-requires : goal.c_opened-requires

@@ -1,6 +1,5 @@
 use mathlib.Core.Path.{◌∙◌, ap}
 use Rattle.qollqamir.specs.Boundary.{c_info}
-use borrow.Author.Rules.{rules}
 use Rattle.qollqamir.proofs.qollqamir_places_runtime_info.Goals as goal
 
 pub returns : goal.returns

@@ -1,5 +1,4 @@
 use Rattle.qollqamir.proofs.Crossing.{crossed}
-use borrow.Author.Rules.{rules}
 use Rattle.qollqamir.proofs.qollqamir_places_view.Goals as goal
 
 pub returns-then-kind-eq4 : goal.returns-then-kind-eq4

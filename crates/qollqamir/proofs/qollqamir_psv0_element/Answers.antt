@@ -4,7 +4,6 @@ use Rattle.psv0_layout.specs.Layout.{edition_read_of}
 use Rattle.psv0_layout.specs.Shown.{answered}
 use Rattle.psv0_layout.proofs.Answered.{element_hidden}
 use Rattle.qollqamir.specs.Boundary.{c_element}
-use borrow.Author.Rules.{rules}
 use Rattle.qollqamir.proofs.qollqamir_psv0_element.Goals as goal
 
 pub returns-in-Refused : goal.returns-in-Refused

@@ -1,7 +1,6 @@
 use mathlib.Core.Path.{◌∙◌, ap}
 use Rattle.qollqamir.specs.Boundary.{c_psv_opened}
 use Rattle.qollqamir.proofs.Crossing.{psv_opened_small}
-use borrow.Author.Rules.{rules}
 use Rattle.qollqamir.proofs.qollqamir_psv0_open_places.Goals as goal
 
 pub c_psv_opened-requires : goal.c_psv_opened-requires

@@ -4,7 +4,6 @@ use Rattle.psv0_layout.specs.Judged.{opened}
 use Rattle.psv0_layout.specs.Shown.{shown, answered}
 use Rattle.psv0_layout.proofs.Answered.{resource_hidden}
 use Rattle.qollqamir.specs.Boundary.{c_resource}
-use borrow.Author.Rules.{rules}
 use Rattle.qollqamir.proofs.qollqamir_psv0_resource.Goals as goal
 
 pub returns-then-n-ne26 : goal.returns-then-n-ne26

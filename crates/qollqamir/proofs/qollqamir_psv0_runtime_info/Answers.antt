@@ -1,6 +1,5 @@
 use mathlib.Core.Path.{◌∙◌, ap, refl}
 use Rattle.psv0.proofs.Openings.{info_accepted, info_refused}
-use borrow.Author.Rules.{rules}
 use Rattle.qollqamir.specs.Boundary.{c_info}
 use Rattle.qollqamir.proofs.qollqamir_psv0_runtime_info.Goals as goal
 

@@ -1,5 +1,4 @@
 use Rattle.qollqamir.proofs.Crossing.{no_section, some_section}
-use borrow.Author.Rules.{rules}
 use Rattle.qollqamir.proofs.qollqamir_psv0_section.Goals as goal
 
 pub returns-then-section-gt5 : goal.returns-then-section-gt5

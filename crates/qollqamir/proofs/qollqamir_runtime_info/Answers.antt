@@ -1,6 +1,5 @@
 use mathlib.Core.Path.{◌∙◌, ap}
 use Rattle.container.proofs.Queries.{placed_info, no_placed_info}
-use borrow.Author.Rules.{rules}
 use Rattle.qollqamir.specs.Boundary.{c_info}
 use Rattle.qollqamir.proofs.qollqamir_runtime_info.Goals as goal
 

@@ -1,6 +1,5 @@
 use mathlib.Core.Path.{◌∙◌, ap}
 use Rattle.qollqamir.specs.Boundary.{c_settings_row_alone}
-use borrow.Author.Rules.{rules}
 use Rattle.qollqamir.proofs.qollqamir_settings_row_alone.Goals as goal
 
 pub returns : goal.returns

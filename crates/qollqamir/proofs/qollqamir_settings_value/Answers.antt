@@ -1,6 +1,5 @@
 use mathlib.Core.Path.{◌∙◌, ap}
 use Rattle.qollqamir.specs.Boundary.{c_setting}
-use borrow.Author.Rules.{rules}
 use Rattle.qollqamir.proofs.qollqamir_settings_value.Goals as goal
 
 pub returns : goal.returns

@@ -1,6 +1,5 @@
 use mathlib.Core.Path.{◌∙◌, ap}
 use Rattle.qollqamir.specs.Boundary.{c_span}
-use borrow.Author.Rules.{rules}
 use Rattle.qollqamir.proofs.qollqamir_sg1_name.Goals as goal
 
 pub returns : goal.returns

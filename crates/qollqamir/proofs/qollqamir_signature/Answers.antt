@@ -1,5 +1,4 @@
 use Rattle.qollqamir.proofs.Crossing.{no_report, report_crossed}
-use borrow.Author.Rules.{rules}
 use Rattle.qollqamir.proofs.qollqamir_signature.Goals as goal
 
 pub returns-then-part-gt2 : goal.returns-then-part-gt2

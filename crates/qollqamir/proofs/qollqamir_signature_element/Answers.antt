@@ -1,7 +1,6 @@
 use mathlib.Core.Path.{◌∙◌, ap}
 use Rattle.qollqamir.specs.Boundary.{c_signature_element}
 use Rattle.qollqamir.proofs.Crossing.{no_element_lem, element_crossed}
-use borrow.Author.Rules.{rules}
 use Rattle.qollqamir.proofs.qollqamir_signature_element.Goals as goal
 
 pub returns-then-part-gt2 : goal.returns-then-part-gt2

@@ -3,7 +3,6 @@ use Rattle.signature_layout.specs.Signature.{view_of}
 use Rattle.signature_layout.specs.declared.SignatureAnswer.{SignatureAnswer}
 use Rattle.qollqamir.specs.Boundary.{c_span}
 use Rattle.qollqamir.proofs.Crossing.{no_element_lem, name_crossed}
-use borrow.Author.Rules.{rules}
 use Rattle.qollqamir.proofs.qollqamir_signature_name.Goals as goal
 
 pub returns-then-part-gt2 : goal.returns-then-part-gt2

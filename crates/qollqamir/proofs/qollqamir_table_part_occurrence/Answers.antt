@@ -1,6 +1,5 @@
 use mathlib.Core.Path.{◌∙◌, ap}
 use Rattle.qollqamir.specs.Boundary.{c_part}
-use borrow.Author.Rules.{rules}
 use Rattle.qollqamir.proofs.qollqamir_table_part_occurrence.Goals as goal
 
 pub returns : goal.returns

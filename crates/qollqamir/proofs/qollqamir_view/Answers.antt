@@ -1,5 +1,4 @@
 use Rattle.qollqamir.proofs.Crossing.{crossed}
-use borrow.Author.Rules.{rules}
 use Rattle.qollqamir.proofs.qollqamir_view.Goals as goal
 
 pub returns : goal.returns

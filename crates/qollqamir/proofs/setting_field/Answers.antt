@@ -1,6 +1,5 @@
 use mathlib.Core.Path.{sym, ap}
 use Rattle.qollqamir.specs.Boundary.{setting_field}
-use borrow.Author.Rules.{rules}
 use Rattle.qollqamir.proofs.setting_field.Goals as goal
 
 pub returns-in-Set : goal.returns-in-Set

@@ -1,6 +1,5 @@
 use mathlib.Core.Path.{◌∙◌, ap}
 use Rattle.qollqamir.specs.Boundary.{c_table}
-use borrow.Author.Rules.{rules}
 use Rattle.qollqamir.proofs.table_asked.Goals as goal
 
 pub returns : goal.returns

@@ -1,5 +1,4 @@
 use native.Mathlib.Omega.{arith}
-use borrow.Author.Rules.{rules}
 use Rattle.show.proofs.data.Goals as goal
 
 pub overflow_add-start : goal.overflow_add-start

@@ -1,6 +1,5 @@
 use mathlib.Core.Path.{◌∙◌}
 use mathlib.Core.Bool.{true}
-use borrow.Author.Rules.{rules}
 use Rattle.wire.specs.Number.{u32_at}
 use Rattle.part_table_layout.proofs.Lookups.{part_in_file, read_inside}
 use Rattle.show.proofs.part_of.Goals as goal
