@@ -32,7 +32,13 @@ ghost use Rattle.qollqamir.specs.Boundary.{c_table, c_part, c_opening, c_psv_ope
 
 use figures_layout::Figures;
 use places_layout::SectionPlaces;
-use qollqamir::{CAdded, CDifference, CElement, CInfo, CItem, CJoined, CLengths, COpened, COpening, CPart, CProgram, CRange, CReplaced, CReport, CResource, CRoot, CRootReport, CSetting, CSettings, CSettingsRow, CSettingsRowAlone, CSignature, CSignatureElement, CSignatureReport, CSpan, CTable, CWritten};
+use psv0_layout::Points;
+use qollqamir::{
+    CAdded, CDifference, CElement, CInfo, CItem, CJoined, CLengths, COpened, COpening, CPart,
+    CProgram, CRange, CReplaced, CReport, CResource, CRoot, CRootReport, CSetting, CSettings,
+    CSettingsRow, CSettingsRowAlone, CSignature, CSignatureElement, CSignatureReport, CSpan,
+    CTable, CWritten,
+};
 
 // The part table, 1 to 9.
 #[unsafe(no_mangle)]
@@ -488,7 +494,9 @@ pub extern "C" fn qollqamir_write_psv0(
     ensures value { result ≡ c_written (writing.answer edition (writing.given runtime.now resources.now strings.now indices.now elements.now masks.now) (length out.old)) }
     ensures out_after { out.new ≡ writing.output edition (writing.given runtime.now resources.now strings.now indices.now elements.now masks.now) out.old }
 {
-    qollqamir::qollqamir_write_psv0(edition, runtime, resources, strings, indices, elements, masks, out)
+    qollqamir::qollqamir_write_psv0(
+        edition, runtime, resources, strings, indices, elements, masks, out,
+    )
 }
 
 // Assembles a container.
