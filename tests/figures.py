@@ -25,7 +25,7 @@ OWN = {"m.dxbc": M, "c.dxbc": C, "early.dxbc": EARLY, "empty.dxbc": b"", "vertex
 DEEP = "./" * 2047
 FILES = {
     **OWN, **{f"stage{stage}": data for stage, data in STAGED.items()},
-    "longest": LONGEST, "long": LONGEST + b"\0", "above": with_psv0(psv0(48, 16)), "two words": M, "-": M, "--help": M, "\udcff\n": M,
+    "longest": LONGEST, "long": LONGEST + b"\0", "above": with_psv0(psv0(48, 16)), "two words": M, "-": M, "--help": M, "\udcff\n": M, "\u00ff\n": M,
 }  # fmt: skip
 
 
@@ -51,7 +51,9 @@ CASES = [
     (["two words"], ONE_M),
     (["-"], ONE_M),
     (["--help"], ONE_M),
-    (["\udcff\n"], ONE_M),
+    # Any text is a name. Bytes that are not well-formed UTF-8 are none for Rattle's library, which then can't open the file.
+    (["\u00ff\n"], ONE_M),
+    (["\udcff\n"], "cannot open 0\n" + NONE),
     # The longest path that a program may open, and one byte more.
     ([DEEP + "-"], ONE_M),
     ([DEEP + "./"], "cannot open 0\n" + NONE),
