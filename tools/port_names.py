@@ -22,9 +22,10 @@ DECLARED = re.compile(
 TOKEN = re.compile(r"[^\s(){}\[\].;,@\"«»`]+")
 WORD = re.compile(r"[\w'′₀₁₂-]+")
 USE = re.compile(r"(?m)^ *(?:pub )?(?:ghost )?use ([^\s;{]+?)\.?(?:\{([^}]*)\})?(?: as \S+)?;? *$")
-# Definitions whose new spelling is a field's or a parameter's of the source, each with what it is called instead.
-OF = "editionRead fileEdition entryNameOffset indexReference inputVectors isString maskBytes maskWords nameOffset patchVectors resourceSize usesViewId"
-INSTEAD = {it: None for it in OF.split()}
+# Definitions whose new spelling is a field's or a parameter's of the source: they get _of.
+OF = set(
+    "editionRead fileEdition entryNameOffset indexReference inputVectors isString maskBytes maskWords nameOffset patchVectors resourceSize usesViewId".split()
+)
 # Words of the library that a file imports beside a lemma that would be spelled so.
 TAKEN = {"is_nan"}
 # Lemmas that port.py gave the name that a definition beside them gets now, with their crates: they get _lem.
@@ -102,7 +103,7 @@ def declared():
     humps = {new for name, new in seen.items() if "-" not in name}
     names = {}
     for name, new in seen.items():
-        if name in INSTEAD:
+        if name in OF:
             new += "_of"
         elif "-" in name and (new in humps or new in kept or new in TAKEN):
             new += "_lem"
