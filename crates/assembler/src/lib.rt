@@ -2,16 +2,15 @@
 // Every check is made before the first byte is written.
 #![tactic(auto)]
 
-ghost use Rattle.std.specs.Prelude.{◌≡◌, ◌++◌, ◌+◌, ◌*◌, ◌≤◌, ◌<◌, eqb, length, get_or, replicate};
+ghost use Rattle.std.specs.Prelude.{◌≡◌, ◌++◌, ◌+◌, ◌*◌, ◌≤◌, ◌<◌, eqb, length, replicate};
 ghost use Rattle.wire.specs.Number.{u32_at, le32};
-ghost use Rattle.wire.specs.Verdict.{each};
-ghost use Rattle.part_table_layout.specs.Table.{may_stand, name_judged};
+ghost use Rattle.wire.specs.Verdict.{each, under};
+ghost use Rattle.part_table_layout.specs.Table.{name_judged};
 ghost use Rattle.assembler_layout.specs.Assembled.{total, round_up, file_length, offsets_from, assembled, parts_right};
 ghost use Rattle.assembler_layout.specs.Answer.{given, answer, output, sized, Passed, header_bytes, front_bytes};
+ghost use Rattle.assembler.specs.Parts.{parts_of};
 
-use assembler_layout::Assembly;
-use part_table_layout::Found;
-use wire::Verdict;
+use wire::Refusal;
 
 // ---- checks
 
@@ -19,67 +18,26 @@ use wire::Verdict;
 fn sums_to(sizes: &[u32], sum: usize) -> bool
     ensures { result ≡ eqb (total sizes.now) sum }
 {
-    let n = sizes.len();
     let mut left = sum;
-    let mut i = 0;
-    while i < n {
-        let size = sizes[i] as usize;
-        if left < size {
+    for size in sizes {
+        let Some(less) = left.checked_sub(*size as usize) else {
             return false;
-        }
-        left -= size;
-        i += 1;
+        };
+        left = less;
     }
     left == 0
 }
 
-// Whether names, sizes, data and digest have the lengths that they should: refusal 27.
-fn parts_right(names: &[u8], sizes: &[u32], data: &[u8], digest: &[u8]) -> bool
-    ensures { result ≡ parts_right (given names.now sizes.now «data».now digest.now) }
-{
-    let n = sizes.len();
-    let len = names.len();
-    if len % 4 != 0 {
-        return false;
-    }
-    if len / 4 != n {
-        return false;
-    }
-    let d = digest.len();
-    if d != 16 {
-        return false;
-    }
-    sums_to(sizes, data.len())
-}
-
-// Whether a part with this name may stand after the first n, whose names were seen.
-fn may_stand(seen: &[u32; 96], n: usize, name: u32) -> bool
-    requires { n ≤ 96 }
-    ensures { result ≡ may_stand (λ k. get_or seen.now k 0) name n }
-{
-    let found = part_table::find_name(seen, n, name);
-    match found {
-        Found::At(_) => part_table::may_repeat(name),
-        Found::Nothing => true,
-    }
-}
-
 // No name that may not repeat stands twice among the n names: refusal 9.
-fn judge_names(names: &[u8], n: usize) -> Verdict
+fn judge_names(names: &[u8], n: usize) -> Result<(), Refusal>
     requires { n ≤ 96 }
-    ensures { result ≡ each (name_judged (λ k. u32_at names.now (4 * k))) n }
+    ensures { result ≡ under (each (name_judged (λ k. u32_at names.now (4 * k))) n) tt }
 {
-    let mut seen = [0u32; 96];
-    let mut i = 0;
-    while i < n {
-        let name = wire::u32_at(names, 4 * i);
-        if !may_stand(&seen, i, name) {
-            return Verdict::Refused(9, i);
-        }
-        seen[i] = name;
-        i += 1;
+    let mut read = [0u32; 96];
+    for i in 0..n {
+        read[i] = wire::u32_at(names, 4 * i);
     }
-    Verdict::Accepted
+    part_table::judge_names(&read[..n])
 }
 
 // The first multiple of 4 that is not less.
@@ -95,69 +53,14 @@ fn file_length(sizes: &[u32]) -> usize
     requires { length sizes.now ≤ 96 }
     ensures { result ≡ file_length (sized sizes.now) }
 {
-    let n = sizes.len();
-    let mut end = 32 + 4 * n;
-    let mut i = 0;
-    while i < n {
-        end = round_up(end) + 8 + sizes[i] as usize;
-        i += 1;
+    let mut end = 32 + 4 * sizes.len();
+    for size in sizes {
+        end = round_up(end) + 8 + *size as usize;
     }
     end
 }
 
-// A refusal shows no length.
-fn refused(number: u8, place: usize) -> Assembly
-    ensures { result ≡ record { verdict = Verdict.Refused number place; len = 0 } }
-{
-    Assembly {
-        verdict: Verdict::Refused(number, place),
-        len: 0,
-    }
-}
-
-// Every check, in order: 27, 6, 9, 2, 28.
-fn judge(names: &[u8], sizes: &[u32], data: &[u8], digest: &[u8], room: usize) -> Assembly
-    ensures { result ≡ answer (given names.now sizes.now «data».now digest.now) room }
-{
-    let n = sizes.len();
-    if !parts_right(names, sizes, data, digest) {
-        return refused(27, 0);
-    }
-    if 96 < n {
-        return refused(6, 0);
-    }
-    let twice = judge_names(names, n);
-    match twice {
-        Verdict::Refused(number, place) => refused(number, place),
-        Verdict::Accepted => {
-            let len = file_length(sizes);
-            if 16777216 < len {
-                return refused(2, 0);
-            }
-            if room < len {
-                return refused(28, 0);
-            }
-            Assembly {
-                verdict: Verdict::Accepted,
-                len,
-            }
-        }
-    }
-}
-
 // ---- the sections, each in its own stretch of the output
-
-// Zero bytes: what fills the space before a part.
-fn clear(out: &mut [u8])
-    ensures { out.new ≡ replicate (length out.old) 0 }
-{
-    let n = out.len();
-    let mut i = 0;
-    while i < n {
-        out[i] = 0;
-        i += 1;
-    }
-}
 
 // The 32 bytes of the header.
 fn write_header(out: &mut [u8], digest: &[u8], len: u32, n: u32)
@@ -177,14 +80,11 @@ fn write_offsets(out: &mut [u8], sizes: &[u32])
     requires { (length out.old ≡ 4 * length sizes.now) × (file_length (sized sizes.now) ≤ 16777216) }
     ensures { out.new ≡ offsets_from (sized sizes.now) 0 (length sizes.now) }
 {
-    let n = sizes.len();
-    let mut end = 32 + 4 * n;
-    let mut i = 0;
-    while i < n {
+    let mut end = 32 + 4 * sizes.len();
+    for (i, size) in sizes.iter().enumerate() {
         let start = round_up(end);
         wire::put_u32(out, 4 * i, start as u32);
-        end = start + 8 + sizes[i] as usize;
-        i += 1;
+        end = start + 8 + *size as usize;
     }
 }
 
@@ -193,9 +93,8 @@ fn write_front(out: &mut [u8], sizes: &[u32], digest: &[u8], len: u32)
     requires { (length out.old ≡ 32 + 4 * length sizes.now) × ((length digest.now ≡ 16) × (file_length (sized sizes.now) ≤ 16777216)) }
     ensures { out.new ≡ front_bytes digest.now len sizes.now }
 {
-    let n = sizes.len();
     let end = out.len();
-    write_header(&mut out[0..32], digest, len, n as u32);
+    write_header(&mut out[0..32], digest, len, sizes.len() as u32);
     write_offsets(&mut out[32..end], sizes);
 }
 
@@ -207,58 +106,111 @@ fn write_part(out: &mut [u8], filler: usize, name: &[u8], size: u32, data: &[u8]
     let named = filler + 4;
     let head = filler + 8;
     let end = out.len();
-    clear(&mut out[0..filler]);
+    out[0..filler].fill(0);
     wire::copy(&mut out[filler..named], name);
     wire::put_u32(out, named, size);
     wire::copy(&mut out[head..end], data);
 }
 
-// The whole container, in an output that is exactly as long.
-fn write(out: &mut [u8], names: &[u8], sizes: &[u32], data: &[u8], digest: &[u8])
-    requires { Passed (given names.now sizes.now «data».now digest.now) (length out.old) }
-    ensures { out.new ≡ assembled (given names.now sizes.now «data».now digest.now) }
-{
-    let n = sizes.len();
-    let len = out.len();
-    let mut end = 32 + 4 * n;
-    write_front(&mut out[0..end], sizes, digest, len as u32);
-    let mut from = 0;
-    let mut i = 0;
-    while i < n {
-        let size = sizes[i];
-        let start = round_up(end);
-        let taken = size as usize;
-        let next = start + 8 + taken;
-        let to = from + taken;
-        let name = 4 * i;
-        let name_end = name + 4;
-        write_part(
-            &mut out[end..next],
-            start - end,
-            &names[name..name_end],
-            size,
-            &data[from..to],
-        );
-        end = next;
-        from = to;
-        i += 1;
+// ---- what is given
+
+// The names, four bytes a part, the sizes, the parts' data end to end, and the digest. The number of parts is the number of sizes.
+#[derive(Clone, Copy)]
+pub struct Parts<'a> {
+    pub names: &'a [u8],
+    pub sizes: &'a [u32],
+    pub data: &'a [u8],
+    pub digest: &'a [u8],
+}
+
+impl<'a> Parts<'a> {
+    // Whether names, sizes, data and digest have the lengths that they should: refusal 27.
+    #[tactic(auto, unfolding(assembler_layout::specs::Assembled::parts_right))]
+    fn lengths_right(&self) -> bool
+        ensures { result ≡ parts_right (parts_of self.now) }
+    {
+        self.names.len() % 4 == 0
+            && self.names.len() / 4 == self.sizes.len()
+            && self.digest.len() == 16
+            && sums_to(self.sizes, self.data.len())
+    }
+
+    // Every check, in order: 27, 6, 9, 2, 28.
+    fn judge(&self, room: usize) -> Result<usize, Refusal>
+        ensures { result ≡ answer (parts_of self.now) room }
+    {
+        let n = self.sizes.len();
+        if !self.lengths_right() {
+            return wire::refused(27, 0);
+        }
+        if 96 < n {
+            return wire::refused(6, 0);
+        }
+        judge_names(self.names, n)?;
+        let len = file_length(self.sizes);
+        if 16777216 < len {
+            return wire::refused(2, 0);
+        }
+        if room < len {
+            return wire::refused(28, 0);
+        }
+        Ok(len)
+    }
+
+    // The whole container, in an output that is exactly as long.
+    fn write(&self, out: &mut [u8])
+        requires { Passed (parts_of self.now) (length out.old) }
+        ensures { out.new ≡ assembled (parts_of self.now) }
+    {
+        let len = out.len();
+        let mut end = 32 + 4 * self.sizes.len();
+        write_front(&mut out[0..end], self.sizes, self.digest, len as u32);
+        let mut from = 0;
+        for (i, size) in self.sizes.iter().enumerate() {
+            let start = round_up(end);
+            let next = start + 8 + *size as usize;
+            let to = from + *size as usize;
+            let name = 4 * i;
+            write_part(
+                &mut out[end..next],
+                start - end,
+                &self.names[name..name + 4],
+                *size,
+                &self.data[from..to],
+            );
+            end = next;
+            from = to;
+        }
+    }
+    // Assembles a container at the start of the output, and answers its length; or answers a refusal, 27, 6, 9, 2 or 28, with the
+    // output as it was.
+    pub fn assemble(&self, out: &mut [u8]) -> Result<usize, Refusal>
+        ensures value { result ≡ answer (parts_of self.now) (length out.old) }
+        ensures out_after { out.new ≡ output (parts_of self.now) out.old }
+    {
+        let len = self.judge(out.len())?;
+        self.write(&mut out[0..len]);
+        Ok(len)
     }
 }
 
-// Assembles a container at the start of the output, and answers its length; or answers a refusal, 27, 6, 9, 2 or 28, with the
-// output as it was. The number of parts is the number of sizes.
-pub fn assemble(names: &[u8], sizes: &[u32], data: &[u8], digest: &[u8], out: &mut [u8]) -> Assembly
+// The same, with what is given in parameters of their own.
+// Stays: (a) docs/ARCHITECTURE.md names this call, and C's qollqamir_assemble has these parameters.
+pub fn assemble(
+    names: &[u8],
+    sizes: &[u32],
+    data: &[u8],
+    digest: &[u8],
+    out: &mut [u8],
+) -> Result<usize, Refusal>
     ensures value { result ≡ answer (given names.now sizes.now «data».now digest.now) (length out.old) }
     ensures out_after { out.new ≡ output (given names.now sizes.now «data».now digest.now) out.old }
 {
-    let a = judge(names, sizes, data, digest, out.len());
-    let v = a.verdict;
-    let len = a.len;
-    match v {
-        Verdict::Refused(_, _) => a,
-        Verdict::Accepted => {
-            write(&mut out[0..len], names, sizes, data, digest);
-            a
-        }
-    }
+    let parts = Parts {
+        names,
+        sizes,
+        data,
+        digest,
+    };
+    parts.assemble(out)
 }

@@ -1,25 +1,21 @@
 -- The checks of an assembly at numbers that the code holds.
 -- Assumes nothing.
-use Prim.Native.Nat.{ℕ, zero, suc, ◌+◌, ◌*◌, ◌≤◌, ◌<◌}
+use Prim.Native.Nat.{ℕ, zero, suc, ◌+◌, ◌≤◌, ◌<◌}
 use mathlib.Core.Path.{◌≡◌, sym, ◌∙◌}
-use mathlib.Core.Bool.{Bool, true, false}
+use mathlib.Core.Bool.{true, false}
 use mathlib.Core.List.{List}
 use native.Mathlib.Numerals.{add-one}
 use native.Mathlib.Omega.{arith}
 use lib.Dec.{eqb}
-use lib.ListN.{length, get_or, take, set}
+use lib.ListN.{length, get_or, take}
 use lib.Seq.{take-length}
 use borrow.Author.Tests.{eq-eqb, ne_eqb, le-leb, lt-leb}
-use Rattle.wire.specs.Verdict.{◌then◌, check, each}
-use Rattle.wire.specs.declared.Verdict.{Verdict}
-use Rattle.wire.specs.declared.Verdict.TheVariants.{Accepted, Refused}
-use Rattle.wire.proofs.Verdicts.{each_stop, each_next}
-use Rattle.part_table_layout.specs.Table.{may_stand, name_judged, filled}
-use Rattle.part_table_layout.proofs.Filled.{filled_more, filled_below}
-use Rattle.part_table_layout.proofs.Judged.{stand_agree, name_refused, name_accepted}
+use Rattle.wire.specs.Verdict.{◌then◌, check, each, Verdict, Accepted, Refused}
+use Rattle.wire.proofs.Verdicts.{each_cong}
+use Rattle.part_table_layout.specs.Table.{name_judged, filled}
+use Rattle.part_table_layout.proofs.Filled.{taken_length, taken_below}
+use Rattle.part_table_layout.proofs.Judged.{stand_agree}
 use Rattle.assembler_layout.specs.Assembled.{Parts, total, part_count, name_given, end_before, file_length, parts_right, assembly_judged}
-use Rattle.assembler_layout.specs.Answer.{answer}
-use Rattle.assembler_layout.specs.declared.Assembly.{Assembly}
 use Rattle.assembler_layout.proofs.Lengths.{total_more, total_front}
 
 -- ---- a sum that is taken apart: left is what is left of sum after the first i sizes
@@ -42,66 +38,46 @@ module _ (l : List ℕ) (i left sum : ℕ) (h : left + total (take i l) ≡ sum)
       go zero e = sym (eq-eqb (total l) sum (omega arith))
       go (suc n) e = ne_eqb (suc n) 0 (λ q. omega arith) ∙ sym (ne_eqb (total l) sum (λ q. omega arith))
 
--- ---- name i, x, was judged by those before it, with the answer t
-module _ (f : ℕ → ℕ) {i n x : ℕ} {l : List ℕ} {t : Bool}
-    (few : n ≤ 96) (less : i < n) (e : x ≡ f i) (seen : l ≡ filled f i) (h : t ≡ may_stand (λ k. get_or l k 0) x i) (a : each (name_judged f) i ≡ Accepted) where
-  stands : t ≡ may_stand f (f i) i
-  stands = h ∙ rw (seen, e) (stand_agree (λ k. get_or (filled f i) k 0) f (f i) i (λ j m. filled_below f i j (omega arith) m))
+-- ---- the n names, read into a table of 96
+name_agree : (f g : ℕ → ℕ) (k : ℕ) → ((j : ℕ) → j ≤ k → f j ≡ g j) → name_judged f k ≡ name_judged g k
+unfolding name_judged
+name_agree f g k h =
+    let e = stand_agree f g (g k) k (λ j l. h j (omega arith)) in
+    let q = h k (omega arith) in
+    rw (q, e)
 
-  pub name_stood : t ≡ false → Refused 9 i ≡ each (name_judged f) n
-  name_stood q = sym (each_stop _ i n 9 i less a (name_refused f i stands q))
+pub names_judged : (f : ℕ → ℕ) {n : ℕ} {l : List ℕ} → n ≤ 96 → l ≡ filled f n
+    → each (name_judged (λ k. get_or (take n l) k 0)) (length (take n l)) ≡ each (name_judged f) n
+names_judged f {n} l e =
+    rw (e, taken_length f n l) (each_cong _ _ n (λ k h. name_agree _ _ k (λ j g. taken_below f n j l (omega arith))))
 
-  pub name_fresh : t ≡ true → each (name_judged f) (i + 1) ≡ Accepted
-  name_fresh q = rw add-one (each_next _ i a (name_accepted f i stands q))
-
-  pub name_seen : set l i x ≡ filled f (i + 1)
-  name_seen = rw seen (filled_more f i e)
-
--- ---- 27
-module _ (g : Parts) where
-  pub names_wrong : (length g.names ≡ 4 * part_count g → ⊥) → false ≡ parts_right g
-  unfolding parts_right
-  names_wrong h = simp (ne_eqb _ _ h)
-
-  module _ (h : length g.names ≡ 4 * part_count g) where
-    pub digest_wrong : (length g.digest ≡ 16 → ⊥) → false ≡ parts_right g
-    unfolding parts_right
-    digest_wrong k = simp (eq-eqb _ _ h, ne_eqb _ _ k)
-
-    pub sum_decides : length g.digest ≡ 16 → eqb (total g.sizes) (length g.bytes) ≡ parts_right g
-    unfolding parts_right
-    sum_decides k = simp (eq-eqb _ _ h, eq-eqb _ _ k)
-
--- ---- the answer: 27, 6, 9, 2, 28
+-- ---- the verdict: 27, 6, 9, 2, 28
 module _ (g : Parts) (room : ℕ) where
-  abbrev refused_by : ℕ → ℕ → Assembly
-  refused_by n p = record { verdict = Refused n p; len = 0 }
-
-  pub not_right : parts_right g ≡ false → refused_by 27 0 ≡ answer g room
-  unfolding answer assembly_judged check ◌then◌
+  pub not_right : parts_right g ≡ false → Refused 27 0 ≡ assembly_judged g room
+  unfolding assembly_judged check ◌then◌
   not_right h = rw h
 
   module _ (right : parts_right g ≡ true) where
-    pub too_many : 96 < part_count g → refused_by 6 0 ≡ answer g room
-    unfolding answer assembly_judged check ◌then◌
+    pub too_many : 96 < part_count g → Refused 6 0 ≡ assembly_judged g room
+    unfolding assembly_judged check ◌then◌
     too_many h = rw (right, lt-leb _ _ h)
 
     module _ (few : part_count g ≤ 96) {v : Verdict} (hv : v ≡ each (name_judged (name_given g)) (part_count g)) where
-      pub name_twice : {n p : ℕ} → v ≡ Refused n p → refused_by n p ≡ answer g room
-      unfolding answer assembly_judged check ◌then◌
+      pub name_twice : {n p : ℕ} → v ≡ Refused n p → Refused n p ≡ assembly_judged g room
+      unfolding assembly_judged check ◌then◌
       name_twice h = rw (right, le-leb _ _ few, ← hv, h)
 
       module _ (h : v ≡ Accepted) {len : ℕ} (hl : len ≡ file_length g) where
-        pub too_long : 16777216 < len → refused_by 2 0 ≡ answer g room
-        unfolding answer assembly_judged check ◌then◌
+        pub too_long : 16777216 < len → Refused 2 0 ≡ assembly_judged g room
+        unfolding assembly_judged check ◌then◌
         too_long l = rw (right, le-leb _ _ few, ← hv, h, ← hl, lt-leb _ _ l)
 
-        pub no_room : len ≤ 16777216 → room < len → refused_by 28 0 ≡ answer g room
-        unfolding answer assembly_judged check ◌then◌
+        pub no_room : len ≤ 16777216 → room < len → Refused 28 0 ≡ assembly_judged g room
+        unfolding assembly_judged check ◌then◌
         no_room l r = rw (right, le-leb _ _ few, ← hv, h, ← hl, le-leb _ _ l, lt-leb _ _ r)
 
-        pub all_right : len ≤ 16777216 → len ≤ room → record { verdict = Accepted; len = len } ≡ answer g room
-        unfolding answer assembly_judged check ◌then◌
+        pub all_right : len ≤ 16777216 → len ≤ room → Accepted ≡ assembly_judged g room
+        unfolding assembly_judged check ◌then◌
         all_right l r = rw (right, le-leb _ _ few, ← hv, h, ← hl, le-leb _ _ l, le-leb _ _ r)
 
 -- where parts start goes by the sizes alone

@@ -11,8 +11,7 @@ use lib.Dec.{leb, eqb}
 use lib.ListN.{length, get_or, take, drop, length-append, length-drop, length-replicate}
 use lib.Seq.{length-take-le}
 use borrow.Author.Tests.{leb-true, eqb-true}
-use Rattle.wire.specs.Verdict.{each}
-use Rattle.wire.specs.declared.Verdict.TheVariants.{Accepted}
+use Rattle.wire.specs.Verdict.{each, Accepted}
 use Rattle.wire.proofs.Choices.{both}
 use Rattle.wire.proofs.Numbers.{le32_length}
 use Rattle.wire.proofs.Verdicts.{then_accepted, check_accepted, check_then, each_accepted}

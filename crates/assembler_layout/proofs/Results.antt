@@ -1,14 +1,15 @@
 -- "What the writer accepts reads back as it was given": the bytes that an accepted assembly writes, by the table reader.
 -- "bytes past a writer's result keep their contents". "When a writer refuses, the output buffer keeps every byte."
 -- Assumes nothing.
+use Rattle.std.specs.Prelude.{Ok, Err}
 use Prim.Native.Nat.{ℕ, ◌≤◌}
 use mathlib.Core.Path.{◌≡◌, refl, sym, ◌∙◌}
 use mathlib.Core.List.{List, ◌++◌}
 use native.Mathlib.Omega.{arith}
 use lib.ListN.{length, take, drop, length-append, length-drop}
 use lib.Seq.{take_at, drop_at}
-use Rattle.wire.specs.declared.Verdict.{Verdict}
-use Rattle.wire.specs.declared.Verdict.TheVariants.{Accepted, Refused}
+use Rattle.wire.specs.declared.Refusal.{Refusal}
+use Rattle.wire.specs.Verdict.{Verdict, Accepted, Refused}
 use Rattle.assembler_layout.specs.Assembled.{Parts, assembled, assembly_judged}
 use Rattle.assembler_layout.proofs.Lengths.{accepted_told}
 use Rattle.assembler_layout.proofs.Places.{assembled_length}
@@ -17,26 +18,25 @@ use Rattle.assembler_layout.specs.Answer.{answer, output_if, output}
 use Rattle.assembler_layout.proofs.Answers.{judged, kept, len_is}
 
 module _ (g : Parts) (o : List ℕ) where
-  module _ (h : (answer g (length o)).verdict ≡ Accepted) where
-    whole : length (assembled g) ≡ (answer g (length o)).len
+  module _ {len : ℕ} (h : answer g (length o) ≡ Ok len) where
+    whole : length (assembled g) ≡ len
     whole = assembled_length g (accepted_told g (length o) (judged g o refl h)).0.right ∙ sym (len_is g o refl h)
 
     holds : output g o ≡ assembled g ++ drop (length (assembled g)) o
     unfolding output
     holds = rw (judged g o refl h)
 
-    result : take (answer g (length o)).len (output g o) ≡ assembled g
-    result = rw holds (take_at (assembled g) (drop (length (assembled g)) o) (answer g (length o)).len whole)
+    result : take len (output g o) ≡ assembled g
+    result = rw holds (take_at (assembled g) (drop (length (assembled g)) o) len whole)
 
-    pub reads_back : ReadsBack g (take (answer g (length o)).len (output g o))
+    pub reads_back : ReadsBack g (take len (output g o))
     reads_back = rw result (round_trip g (length o) (judged g o refl h))
 
-    pub past_kept : drop (answer g (length o)).len (output g o) ≡ drop (answer g (length o)).len o
-    past_kept = rw holds (drop_at (assembled g) (drop (length (assembled g)) o) (answer g (length o)).len whole ∙ rw whole)
+    pub past_kept : drop len (output g o) ≡ drop len o
+    past_kept = rw holds (drop_at (assembled g) (drop (length (assembled g)) o) len whole ∙ rw whole)
 
-  pub refused_kept : {n p : ℕ} → (answer g (length o)).verdict ≡ Refused n p → (output g o ≡ o) × ((answer g (length o)).len ≡ 0)
-  unfolding answer
-  refused_kept h = (sym (kept g o refl h), rw (judged g o refl h))
+  pub refused_kept : {x : Refusal} → answer g (length o) ≡ Err x → output g o ≡ o
+  refused_kept h = sym (kept g o refl h)
 
   length_if_lem : (v : Verdict) → (v ≡ Accepted → length (assembled g) ≤ length o) → length (output_if v g o) ≡ length o
   length_if_lem Accepted f = let l = f refl in simp (length-append, length-drop) (omega arith)

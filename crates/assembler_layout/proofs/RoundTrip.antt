@@ -1,16 +1,16 @@
 -- "an assembled container [reads back] by the table reader": the reader accepts what was assembled, and shows the parts
 -- that were given, in their order, each where it should start; the digest is carried.
 -- Assumes nothing.
+use Rattle.std.specs.Prelude.{Some}
 use Prim.Native.Nat.{ℕ, ◌-◌, ◌%◌, ◌≤◌, ◌<◌}
 use mathlib.Core.Path.{◌≡◌, sym, ◌∙◌}
 use mathlib.Core.List.{List}
 use native.Mathlib.Omega.{arith}
 use lib.ListN.{length, take, drop, replicate}
-use Rattle.wire.specs.declared.Verdict.TheVariants.{Accepted}
+use Rattle.wire.specs.Verdict.{Accepted}
 use Rattle.wire.proofs.Sums.{count_agree}
 use Rattle.part_table_layout.specs.Lookup.{find_occurrence, occurrence_data}
 use Rattle.part_table_layout.specs.Table.{priv, borne, occurrence_at, count_of, offset_at, name_at, size_at, data_at, earliest, table_judged}
-use Rattle.part_table_layout.specs.declared.Found.TheVariants.{At}
 use Rattle.part_table_layout.proofs.Accepted.{accepted_is}
 use Rattle.part_table_layout.proofs.Lookups.{found_by_occurrence, data_shown}
 use Rattle.assembler_layout.specs.Assembled.{Parts, part_count, size_given, name_given, name_bytes, data_given, end_before, start_of, file_length, assembled, assembly_judged}
@@ -31,7 +31,7 @@ pub record PartReads (g : Parts) (b : List ℕ) (k : ℕ) : Type 0 where
   pub early : (s : ℕ) → earliest b k ≤ s → s % 4 ≡ 0 → offset_at b k ≤ s
   -- the part is found again by its name and its occurrence among the names that were given
   pub occurrence : occurrence_at (name_at b) k ≡ occurrence_at (name_given g) k
-  pub found : find_occurrence b (name_given g k) (occurrence_at (name_given g) k) ≡ At k
+  pub found : find_occurrence b (name_given g k) (occurrence_at (name_given g) k) ≡ Some k
   pub found_data : occurrence_data b (name_given g k) (occurrence_at (name_given g) k) ≡ data_given g k
   -- "filler is zero"
   pub filler : take (offset_at b k - earliest b k) (drop (earliest b k) b) ≡ replicate (offset_at b k - earliest b k) 0
@@ -91,7 +91,7 @@ round_trip g room h =
 
 -- Document 02, Ask 8: of several PRIV parts each is found again by how many of them were given before it, with its own data
 pub private_found : (g : Parts) (room : ℕ) → assembly_judged g room ≡ Accepted → (k : ℕ) → k < part_count g → name_given g k ≡ priv
-    → (find_occurrence (assembled g) priv (borne (name_given g) priv k) ≡ At k) × (occurrence_data (assembled g) priv (borne (name_given g) priv k) ≡ data_given g k)
+    → (find_occurrence (assembled g) priv (borne (name_given g) priv k) ≡ Some k) × (occurrence_data (assembled g) priv (borne (name_given g) priv k) ≡ data_given g k)
 private_found g room h k l e =
     let p = (round_trip g room h).part k l in
     (rw e at p.found, rw e at p.found_data)

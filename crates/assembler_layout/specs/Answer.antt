@@ -1,23 +1,18 @@
 -- What the container assembler answers, and what its output holds afterwards.
-use Rattle.std.specs.Prelude.{◌≡◌, true, List, [], ◌++◌, ℕ, ◌≤◌, length, drop}
+use Rattle.std.specs.Prelude.{◌≡◌, true, List, [], ◌++◌, ℕ, ◌≤◌, Result, length, drop}
 use Rattle.wire.specs.Number.{le16, le32}
-use Rattle.wire.specs.declared.Verdict.{Verdict}
-use Rattle.wire.specs.declared.Verdict.TheVariants.{Accepted, Refused}
+use Rattle.wire.specs.Verdict.{under, Verdict, Accepted, Refused}
+use Rattle.wire.specs.declared.Refusal.{Refusal}
 use Rattle.part_table_layout.specs.Table.{magic}
 use Rattle.assembler_layout.specs.Assembled.{Parts, file_length, offsets_from, parts_right, assembled, assembly_judged}
-use Rattle.assembler_layout.specs.declared.Assembly.{Assembly}
 
 -- "names, sizes, data end to end, and a digest"
 abbrev pub given : List ℕ → List ℕ → List ℕ → List ℕ → Parts
 given names sizes bytes digest = record { names = names; sizes = sizes; bytes = bytes; digest = digest }
 
--- the length of the container, 0 beside a refusal
-abbrev pub answer_if : Verdict → ℕ → Assembly
-answer_if Accepted n = record { verdict = Accepted; len = n }
-answer_if (Refused m p) n = record { verdict = Refused m p; len = 0 }
-
-unfoldable pub answer : Parts → ℕ → Assembly
-answer g room = answer_if (assembly_judged g room) (file_length g)
+-- the length of the container, or the refusal
+abbrev pub answer : Parts → ℕ → Result ℕ Refusal
+answer g room = under (assembly_judged g room) (file_length g)
 
 -- "bytes past a writer's result keep their contents"; a refusal leaves the output as it was
 abbrev pub output_if : Verdict → Parts → List ℕ → List ℕ

@@ -1,8 +1,7 @@
 -- What the container assembler is given, what it writes, and when it refuses.
 use Rattle.std.specs.Prelude.{Bool, ◌&&◌, List, [], ◌∷◌, ◌++◌, ℕ, zero, suc, ◌+◌, ◌-◌, ◌*◌, ◌/◌, leb, eqb, length, get_or, take, drop, replicate}
 use Rattle.wire.specs.Number.{u32_at, le16, le32}
-use Rattle.wire.specs.Verdict.{◌then◌, check, each}
-use Rattle.wire.specs.declared.Verdict.{Verdict}
+use Rattle.wire.specs.Verdict.{◌then◌, check, each, Verdict}
 use Rattle.part_table_layout.specs.Table.{magic, offset_bytes, name_judged}
 
 -- "names, sizes, data end to end, and a digest"; the number of parts is the number of sizes

@@ -2,182 +2,105 @@
 // the file stdout.
 #![tactic(auto)]
 
+use assembler::Parts;
 use part_table_layout::Table;
-use wire::Verdict;
-
-// Standard output.
-const STDOUT_FILENO: i32 = 1;
-
-// ---- printing
-
-fn print(s: &[u8]) {
-    io::write_all(STDOUT_FILENO, s);
-}
-
-fn number(n: u64) {
-    print(b" ");
-    io::print_decimal(STDOUT_FILENO, n);
-}
-
-fn refused(n: u8, place: usize) {
-    print(b" refused");
-    number(n as u64);
-    number(place as u64);
-}
-
-fn either(ok: bool, yes: &[u8], no: &[u8]) {
-    if ok {
-        print(yes);
-    } else {
-        print(no);
-    }
-}
+use printing::text;
+use runs::{either, number, refused, stretch};
 
 // ---- comparing
 
-// So many bytes of a slice from a place on; none where they are not all there.
-fn stretch(s: &[u8], from: usize, len: usize) -> &[u8] {
-    if from <= s.len() {
-        if len <= s.len() - from {
-            let to = from + len;
-            return &s[from..to];
-        }
-    }
-    &s[0..0]
-}
-
 // Whether an output that was all 170 still is from a place on.
 fn untouched(out: &[u8; 2048], from: usize) -> bool {
-    let before = [170u8; 2048];
-    if 2048 < from {
-        return false;
-    }
-    let rest = 2048 - from;
-    check::same(stretch(out, from, rest), stretch(&before, from, rest))
-}
-
-fn stretch_of(s: &[u8], from: usize, n: u32) -> &[u8] {
-    stretch(s, from, n as usize)
-}
-
-// The data of a part whose header starts at a place.
-fn data_of(b: &[u8], header: u32, size: u32) -> &[u8] {
-    stretch(b, header as usize + 8, size as usize)
+    from <= 2048 && out.iter().skip(from).all(|b| *b == 170)
 }
 
 // Whether part k of a table has a name, a size and data, and starts at a multiple of 4.
 fn part_same(b: &[u8], t: Table, k: usize, name: u32, size: u32, data: &[u8]) -> bool {
-    if 95 < k {
+    if 95 < k || t.names[k] != name || t.sizes[k] != size || t.offsets[k] % 4 != 0 {
         return false;
     }
-    if t.names[k] != name {
-        return false;
-    }
-    if t.sizes[k] != size {
-        return false;
-    }
-    let at = t.offsets[k];
-    if at % 4 != 0 {
-        return false;
-    }
-    check::same(data_of(b, at, size), data)
-}
-
-// The place so many bytes further in a slice; its end where they are not all there.
-fn further(s: &[u8], from: usize, n: u32) -> usize {
-    let len = n as usize;
-    if from <= s.len() {
-        if len <= s.len() - from {
-            return from + len;
-        }
-    }
-    s.len()
+    check::same(stretch(b, t.offsets[k] as usize + 8, size as usize), data)
 }
 
 // Whether every part of a table is what was given.
-fn parts_same(b: &[u8], t: Table, names: &[u8], sizes: &[u32], data: &[u8]) -> bool {
-    let n = sizes.len();
-    if 96 < n {
-        return false;
-    }
-    let mut from = 0;
-    let mut k = 0;
-    while k < n {
-        let size = sizes[k];
-        let name = wire::u32_at(names, 4 * k);
-        if !part_same(b, t, k, name, size, stretch_of(data, from, size)) {
+fn parts_same(b: &[u8], t: Table, given: Parts) -> bool {
+    let mut data = given.data;
+    for (k, size) in given.sizes.iter().enumerate() {
+        let name = wire::u32_at(given.names, 4 * k);
+        let len = data.len().min(*size as usize);
+        if !part_same(b, t, k, name, *size, stretch(data, 0, *size as usize)) {
             return false;
         }
-        from = further(data, from, size);
-        k += 1;
+        data = &data[len..];
     }
     true
 }
 
 // ---- cases
 
-fn offset(t: Table, k: usize) {
-    if k < 96 {
-        if k < t.count {
-            number(t.offsets[k] as u64);
-        }
-    }
-}
-
 // What the table reader shows of a result: the number of parts, where the first four start, and whether all is as it was given.
-fn read_back(b: &[u8], names: &[u8], sizes: &[u32], data: &[u8], digest: &[u8]) {
+fn read_back(b: &[u8], given: Parts) {
     let t = part_table::read(b);
-    let v = t.verdict;
-    match v {
-        Verdict::Refused(n, place) => refused(n, place),
-        Verdict::Accepted => {
-            print(b" parts");
-            number(t.count as u64);
-            print(b" at");
-            offset(t, 0);
-            offset(t, 1);
-            offset(t, 2);
-            offset(t, 3);
+    match t.verdict {
+        Err(r) => refused(r),
+        Ok(()) => {
+            text(b" parts");
+            number(t.count as usize);
+            text(b" at");
+            for offset in t.offsets.iter().take(t.count.min(4)) {
+                number(*offset as usize);
+            }
         }
     }
-    either(t.count == sizes.len(), b" all", b" some");
-    either(parts_same(b, t, names, sizes, data), b" same", b" other");
+    either(t.count == given.sizes.len(), b" all", b" some");
+    either(parts_same(b, t, given), b" same", b" other");
     either(
-        check::same(stretch(b, 4, 16), digest),
+        check::same(stretch(b, 4, 16), given.digest),
         b" digest",
         b" no digest",
     );
 }
 
-fn front(out: &[u8; 2048], len: usize) -> &[u8] {
-    stretch(out, 0, len)
-}
-
 // One assembly into an output of so many bytes, at the start of 2048.
-fn assembly(label: &[u8], names: &[u8], sizes: &[u32], data: &[u8], digest: &[u8], room: usize) {
+fn assembly(label: &[u8], given: Parts, room: usize) {
     let mut out = [170u8; 2048];
-    if 2048 < room {
-        return;
-    }
-    let a = assembler::assemble(names, sizes, data, digest, &mut out[0..room]);
-    print(label);
-    print(b":");
-    let v = a.verdict;
-    let len = a.len;
-    match v {
-        Verdict::Refused(n, place) => refused(n, place),
-        Verdict::Accepted => {
-            print(b" accepted");
-            number(len as u64);
-            read_back(front(&out, len), names, sizes, data, digest);
+    text(label);
+    text(b":");
+    let len = match given.assemble(&mut out[..room.min(2048)]) {
+        Err(r) => {
+            refused(r);
+            0
         }
-    }
+        Ok(len) => {
+            text(b" accepted");
+            number(len);
+            read_back(stretch(&out, 0, len), given);
+            len
+        }
+    };
     either(untouched(&out, len), b", rest kept\n", b", rest changed\n");
 }
 
 // The same, with a digest of 16 bytes.
 fn digested(label: &[u8], names: &[u8], sizes: &[u32], data: &[u8], room: usize) {
-    assembly(label, names, sizes, data, b"0123456789abcdef", room);
+    let given = Parts {
+        names,
+        sizes,
+        data,
+        digest: b"0123456789abcdef",
+    };
+    assembly(label, given, room);
+}
+
+// Parts without data, with a digest of another length.
+fn other_digest(label: &[u8], names: &[u8], sizes: &[u32], digest: &[u8]) {
+    let given = Parts {
+        names,
+        sizes,
+        data: b"",
+        digest,
+    };
+    assembly(label, given, 2048);
 }
 
 fn refused_27() {
@@ -185,22 +108,8 @@ fn refused_27() {
     digested(b"five name bytes", b"ABCDE", &[0u32; 1], b"", 2048);
     digested(b"a name, no part", b"ABCD", &[0u32; 0], b"", 2048);
     digested(b"a part, no name", b"", &[0u32; 1], b"", 2048);
-    assembly(
-        b"digest of 15",
-        b"ABCD",
-        &[0u32; 1],
-        b"",
-        b"0123456789abcde",
-        2048,
-    );
-    assembly(
-        b"digest of 17",
-        b"ABCD",
-        &[0u32; 1],
-        b"",
-        b"0123456789abcdefg",
-        2048,
-    );
+    other_digest(b"digest of 15", b"ABCD", &[0u32; 1], b"0123456789abcde");
+    other_digest(b"digest of 17", b"ABCD", &[0u32; 1], b"0123456789abcdefg");
     digested(b"sizes below the data", b"ABCD", &[1u32; 1], b"xy", 2048);
     digested(b"sizes above the data", b"ABCD", &[3u32; 1], b"xy", 2048);
     digested(
@@ -213,12 +122,12 @@ fn refused_27() {
 }
 
 // Names 1, 2 and so on, of 97 parts.
-fn numbered(names: &mut [u8; 388]) {
-    let mut k: u32 = 0;
-    while k < 97 {
-        wire::put_u32(names, 4 * (k as usize), k + 1);
-        k += 1;
+fn numbered() -> [u8; 388] {
+    let mut names = [0u8; 388];
+    for k in 0..97 {
+        wire::put_u32(&mut names, 4 * k, k as u32 + 1);
     }
+    names
 }
 
 fn many(names: &[u8; 388]) {
@@ -242,9 +151,7 @@ fn many(names: &[u8; 388]) {
 }
 
 fn refused_6() {
-    let mut names = [0u8; 388];
-    numbered(&mut names);
-    many(&names);
+    many(&numbered());
 }
 
 fn refused_9() {
@@ -265,7 +172,7 @@ fn refused_9() {
         b"",
         2048,
     );
-    assembly(b"27 before 9", b"AAAAAAAA", &[0u32; 2], b"", b"", 2048);
+    other_digest(b"27 before 9", b"AAAAAAAA", &[0u32; 2], b"");
     digested(b"9 before 28", b"AAAAAAAA", &[0u32; 2], b"", 0);
 }
 
@@ -289,44 +196,33 @@ fn several_private() {
     digested(b"PRIV again, 28", b"PRIVPRIV", &[0u32; 2], b"", 55);
 }
 
-// One name for each of 96 parts.
-fn name_all(names: &mut [u8; 384], name: u32) {
-    let mut k: u32 = 0;
-    while k < 96 {
-        wire::put_u32(names, 4 * (k as usize), name);
-        k += 1;
-    }
-}
-
-fn same_names(names: &[u8; 384]) {
-    digested(b"96 PRIV", names, &[0u32; 96], b"", 2048);
-}
-
+// 96 parts of one name.
 fn all_private() {
     let mut names = [0u8; 384];
-    name_all(&mut names, wire::u32_at(b"PRIV", 0));
-    same_names(&names);
+    for k in 0..96 {
+        wire::put_u32(&mut names, 4 * k, wire::u32_at(b"PRIV", 0));
+    }
+    digested(b"96 PRIV", &names, &[0u32; 96], b"", 2048);
 }
 
 // The data of the PRIV parts of an assembly, by their occurrences; nothing past the last.
 fn each_private() {
     let mut out = [170u8; 91];
-    assembler::assemble(
+    if let Err(r) = assembler::assemble(
         b"PRIVDXILPRIVPRIV",
         &[1u32, 0, 2, 3],
         b"122333",
         b"0123456789abcdef",
         &mut out,
-    );
-    print(b"PRIV 0 to 3: ");
-    print(part_table::part_data_occurrence(&out, b"PRIV", 0));
-    print(b" ");
-    print(part_table::part_data_occurrence(&out, b"PRIV", 1));
-    print(b" ");
-    print(part_table::part_data_occurrence(&out, b"PRIV", 2));
-    print(b" ");
-    print(part_table::part_data_occurrence(&out, b"PRIV", 3));
-    print(b"\n");
+    ) {
+        refused(r);
+    }
+    text(b"PRIV 0 to 3:");
+    for occurrence in 0..4 {
+        text(b" ");
+        text(part_table::part_data_occurrence(&out, b"PRIV", occurrence));
+    }
+    text(b"\n");
 }
 
 fn outputs() {
@@ -369,7 +265,7 @@ fn laid_out(out: &[u8; 62]) {
     let header = b"DXBC0123456789abcdef\x01\x00\x00\x00\x3e\x00\x00\x00\x02\x00\x00\x00";
     let offsets = b"\x28\x00\x00\x00\x34\x00\x00\x00";
     let parts = b"AAAA\x01\x00\x00\x00x\x00\x00\x00BBBB\x02\x00\x00\x00yz";
-    print(b"byte by byte:");
+    text(b"byte by byte:");
     either(
         check::same(stretch(out, 0, 32), header),
         b" header",
@@ -385,18 +281,20 @@ fn laid_out(out: &[u8; 62]) {
         b" parts",
         b" other parts",
     );
-    print(b"\n");
+    text(b"\n");
 }
 
 fn bytes() {
     let mut out = [170u8; 62];
-    assembler::assemble(
+    if let Err(r) = assembler::assemble(
         b"AAAABBBB",
         &[1u32, 2],
         b"xyz",
         b"0123456789abcdef",
         &mut out,
-    );
+    ) {
+        refused(r);
+    }
     laid_out(&out);
 }
 

@@ -1,296 +1,291 @@
 -- A query on a container is the query on its PSV0 data, or the refusal of what is checked before: one law for every query.
 -- Assumes nothing.
+use Rattle.std.specs.Prelude.{None, Option, Some, Result, Ok, Err}
 use Prim.Native.Nat.{ℕ, ◌+◌, ◌-◌, ◌≤◌, ◌<◌}
 use mathlib.Core.Path.{◌≡◌, refl, sym, ◌∙◌, ap}
 use mathlib.Core.Bool.{true, true≢false}
-use mathlib.Core.List.{List, []}
+use mathlib.Core.List.{List}
 use native.Mathlib.Omega.{arith}
 use lib.ListN.{length, take, drop, length-drop}
 use lib.Seq.{length-take-le}
 use borrow.Author.Tests.{lt-leb}
 use Rattle.constants.specs.Edition.{file_edition_of}
 use Rattle.wire.specs.Number.{u32_at}
-use Rattle.wire.specs.Verdict.{◌then◌, check}
-use Rattle.wire.specs.declared.Verdict.{Verdict}
-use Rattle.wire.specs.declared.Verdict.TheVariants.{Accepted, Refused}
-use Rattle.part_table_layout.specs.Lookup.{find, find_occurrence, refused_part, part_at, part_if, occurrence_of, part_of}
+use Rattle.wire.specs.Verdict.{◌then◌, check, under, verdict_of, Verdict, Accepted, Refused}
+use Rattle.wire.specs.declared.Refusal.{Refusal}
+use Rattle.wire.proofs.Verdicts.{verdict_is, accepted_by, refused_by, value_by, accepts, refuses, stop_then}
+use Rattle.part_table_layout.specs.Lookup.{find, find_occurrence, part_at}
 use Rattle.part_table_layout.specs.Table.{count_of, data_at}
-use Rattle.part_table_layout.specs.declared.Part.{Part}
-use Rattle.part_table_layout.specs.declared.Found.{Found}
-use Rattle.part_table_layout.specs.declared.Found.TheVariants.{At, Nothing}
 use Rattle.part_table_layout.proofs.Accepted.{accepted_told, part_inside}
 use Rattle.part_table_layout.proofs.Lookups.{find_told}
-use Rattle.psv0_layout.specs.Answers.{number_beside, bytes_beside, bytes_of, opening_of, info_answer_of, resource_answer_of, element_answer_of, lengths_answer_of, refused_info, refused_resource, refused_element, refused_lengths, refused_span, question_of, points_of, SpanShows}
+use Rattle.psv0_layout.specs.Answers.{bytes_beside, bytes_of, opening_of, info_answer_of, question_of, points_of, SpanShows}
 use Rattle.psv0_layout.specs.declared.Opening.{Opening}
-use Rattle.psv0_layout.specs.declared.Points.{Points}
 use Rattle.psv0_layout.specs.declared.Span.{Span}
 use Rattle.psv0_layout.specs.declared.View.{View}
-use Rattle.psv0_layout.proofs.Spans.{refused_shows, no_points}
+use Rattle.psv0_layout.proofs.Spans.{span_shows, nothing_shows, no_points}
 use Rattle.psv0_layout.specs.Handed as handed
 use Rattle.psv0_layout.specs.Judged.{opened}
 use Rattle.psv0_layout.specs.Layout.{edition_read_of}
-use Rattle.psv0_layout.specs.Shown.{Value, unset, Question, queried, answered, shown, beside}
+use Rattle.psv0_layout.specs.Shown.{Value, unset, Question, queried, answered}
 use Rattle.psv0_layout.proofs.Positions.{part_part}
 use Rattle.container_layout.specs.Container.{psv0, is_there, start_found, size_found, data_found, psv_of, before_psv, container_judged, container_answered, container_part, container_occurrence}
 use Rattle.container_layout.proofs.Containers.{data_opens, before_told, opens_alone, shows_alone, refuses_before, shows_nothing}
 use Rattle.container_layout.specs.Placed.{container_places}
 use Rattle.container_layout.proofs.Placed.{psv_there, info_fresh}
 use Rattle.places_layout.specs.Answers.{info_by}
-use Rattle.places_layout.specs.declared.SectionPlaces.{SectionPlaces}
-use Rattle.places_layout.specs.Placed.{places_at, moved_by, places_beside, opened_places}
+use Rattle.places_layout.specs.Placed.{moved_by, opened_places}
 use Rattle.places_layout.specs.declared.PlacesAnswer.{PlacesAnswer}
 use Rattle.places_layout.proofs.Moving.{moved_places}
-use Rattle.container.specs.Opened.{refused_places, placed_if, container_places_of, psv_part_of, refused_opening, opening_if, moved_span, part_beside, container_opening_of}
+use Rattle.container.specs.Opened.{psv_shown, psv_part_of, container_opening_of, container_places_of}
 use Rattle.container.specs.declared.ContainerOpening.{ContainerOpening}
 use Rattle.container.specs.declared.ContainerPlaces.{ContainerPlaces}
 use Rattle.container.specs.declared.PsvPart.{PsvPart}
 
-pub end_less : (s l : ℕ) → s + l - s ≡ l
-end_less s l = omega arith
-
 -- where the data of a part that is there lie
-found_inside : (k : ℕ) (b : List ℕ) → before_psv k b ≡ Accepted → (f : Found) → find b psv0 ≡ f → start_found b f + size_found b f ≤ length b
-found_inside k b h (At i) e =
+found_inside : (k : ℕ) (b : List ℕ) → before_psv k b ≡ Accepted → (f : Option ℕ) → find b psv0 ≡ f → start_found b f + size_found b f ≤ length b
+found_inside k b h (Some i) e =
     part_inside b (before_told k b h).table i (find_told b psv0 i e).listed
-found_inside k b h Nothing e = omega arith
+found_inside k b h None e = omega arith
 
-found_data_lem : (b : List ℕ) (f : Found) → is_there f ≡ true → take (size_found b f) (drop (start_found b f) b) ≡ data_found b f
+found_data_lem : (b : List ℕ) (f : Option ℕ) → is_there f ≡ true → take (size_found b f) (drop (start_found b f) b) ≡ data_found b f
 unfolding data_at
-found_data_lem b (At i) t = refl
-found_data_lem b Nothing t = absurd (true≢false (sym t))
+found_data_lem b (Some i) t = refl
+found_data_lem b None t = absurd (true≢false (sym t))
 
-module _ (k : ℕ) (b : List ℕ) {p : PsvPart} (hp : p ≡ psv_part_of k b) where
-  pub before_is : {v : Verdict} → p.verdict ≡ v → before_psv k b ≡ v
-  unfolding psv_part_of
-  before_is h = rw hp at h
+-- what is asked of bytes that don't open is refused as they are
+pub queried_refused : {o : Verdict} (v : Value) {n p : ℕ} → o ≡ Refused n p → Refused n p ≡ queried o v
+unfolding queried
+queried_refused {o} v h = stop_then o _ _ _ h
 
-  module _ (a : p.verdict ≡ Accepted) where
-    found : p ≡ record { verdict = Accepted; parts = count_of b; start = start_found b (find b psv0); end = start_found b (find b psv0) + size_found b (find b psv0) }
+-- w is what the search for the PSV0 part and the name x answers
+module _ (k : ℕ) (b : List ℕ) (x : ℕ) {w : Result PsvPart Refusal} (hw : w ≡ psv_part_of k b x) where
+  -- ---- a refusal: nothing of the file is shown
+  module _ {r : Refusal} (e : w ≡ Err r) where
+    before_refused : before_psv k b ≡ Refused r.number r.place
     unfolding psv_part_of
-    found = let e = before_is a in hp ∙ rw e
+    before_refused = refused_by _ _ hw e
 
-    -- the part's data as a part of the container
-    pub order : p.start ≤ p.end
-    order = rw found (omega arith)
+    pub stops : Refused r.number r.place ≡ container_judged k b
+    stops = sym (refuses_before k b before_refused)
 
-    pub inside : p.end ≤ length b
-    inside = rw found (found_inside k b (before_is a) (find b psv0) refl)
+    no_values : container_answered k b ≡ (λ q. unset)
+    no_values = λ i q. shows_nothing k b before_refused q i
 
-    pub count_is : p.parts ≡ count_of b
+    module _ {s : Result Span Refusal} (h : s ≡ Err r) where
+      pub no_view : (v : View)
+          → SpanShows b (queried (container_judged k b) (container_answered k b (question_of v))) (bytes_of (container_answered k b (question_of v)))
+          (points_of v (container_answered k b)) s
+      no_view v = rw (no_values, no_points v) (nothing_shows b h (sym (queried_refused unset (sym stops))))
+
+      pub no_section : (l : List ℕ) → SpanShows b (container_judged k b) (bytes_beside (container_judged k b) l) None s
+      no_section l = rw (← stops) (nothing_shows b h refl)
+
+    pub no_part : (y : ℕ) → Err r ≡ container_part k b y
+    unfolding container_occurrence
+    no_part y = rw (← stops)
+
+  -- ---- the part p
+  module _ {p : PsvPart} (e : w ≡ Ok p) where
+    before_passes : before_psv k b ≡ Accepted
+    unfolding psv_part_of
+    before_passes = accepted_by _ _ hw e
+
+    found : p ≡ psv_shown b x
+    unfolding psv_part_of
+    found = value_by _ _ hw e
+
+    -- its data as a part of the container
+    pub within : (p.start ≤ p.end) × (p.end ≤ length b)
+    within = rw found (omega arith, found_inside k b before_passes (find b psv0) refl)
+
+    all_short : length b ≤ 16777216
+    all_short = (accepted_told b (before_told k b before_passes).table).header.short
+
+    pub psv0_short : p.start ≤ 16777216
+    psv0_short = let i = within in omega (arith, i.0, i.1, all_short)
+
+    start_is : p.start ≡ start_found b (find b psv0)
+    start_is = ap (λ (q : PsvPart). q.start) found
+
+    count_is : p.parts ≡ count_of b
     count_is = ap (λ (q : PsvPart). q.parts) found
+
+    asked_is : p.asked ≡ part_at b (find_occurrence b x 0)
+    asked_is = ap (λ (q : PsvPart). q.asked) found
 
     pub data_is : take (p.end - p.start) (drop p.start b) ≡ psv_of b
     unfolding psv_of
     data_is =
         let s = start_found b (find b psv0) in
         let z : s + size_found b (find b psv0) - s ≡ size_found b (find b psv0) = omega arith in
-        rw found (rw z (found_data_lem b (find b psv0) (before_told k b (before_is a)).validation))
+        rw found (rw z (found_data_lem b (find b psv0) (before_told k b before_passes).validation))
 
-    -- what a query answers of the PSV0 data alone it answers of the container
-    pub alone : {A : Type 0} (F : Verdict → (Question → Value) → A) {d : List ℕ} → d ≡ psv_of b
-        → F (opened k d) (answered k d) ≡ F (container_judged k b) (container_answered k b)
-    alone F e = rw e (λ i. F (sym (opens_alone k b (before_is a)) i) (λ q. sym (shows_alone k b (before_is a) q) i))
+    -- ---- d are the data
+    module _ {d : List ℕ} (hd : d ≡ psv_of b) where
+      opens_so : opened k d ≡ container_judged k b
+      opens_so = rw hd (sym (opens_alone k b before_passes))
 
-  -- a refusal before it shows nothing
-  module _ {n q : ℕ} (h : p.verdict ≡ Refused n q) where
-    nothing : {A : Type 0} (F : Verdict → (Question → Value) → A) → F (Refused n q) (λ x. unset) ≡ F (container_judged k b) (container_answered k b)
-    nothing F = λ i. F (sym (refuses_before k b (before_is h)) i) (λ x. sym (shows_nothing k b (before_is h) x) i)
+      answers_so : answered k d ≡ container_answered k b
+      answers_so = rw hd (λ i q. sym (shows_alone k b before_passes q) i)
 
-    pub no_info : refused_info n q ≡ info_answer_of (container_judged k b) (container_answered k b)
-    unfolding info_answer_of
-    no_info = nothing info_answer_of
+      -- what a query answers of the PSV0 data alone it answers of the container
+      pub alone : {A : Type 0} (F : Verdict → (Question → Value) → A) → F (opened k d) (answered k d) ≡ F (container_judged k b) (container_answered k b)
+      alone F = rw hd (λ i. F (sym (opens_alone k b before_passes) i) (λ q. sym (shows_alone k b before_passes q) i))
 
-    pub no_resource : (i : ℕ) → refused_resource n q ≡ resource_answer_of (container_judged k b) (container_answered k b) i
-    unfolding resource_answer_of queried ◌then◌
-    no_resource i = nothing (λ o a. resource_answer_of o a i)
+      -- an opening of them
+      module _ {A : Type 0} (y : A) {o : Result A Refusal} (ho : o ≡ under (opened k d) y) where
+        pub data_stop : {r : Refusal} → o ≡ Err r → Refused r.number r.place ≡ container_judged k b
+        data_stop h = sym (refused_by _ _ ho h) ∙ opens_so
 
-    pub no_element_lem : (i : ℕ) → refused_element n q ≡ element_answer_of (container_judged k b) (container_answered k b) i
-    unfolding element_answer_of queried ◌then◌
-    no_element_lem i = nothing (λ o a. element_answer_of o a i)
+        opens_all : {z : A} → o ≡ Ok z → container_judged k b ≡ Accepted
+        opens_all h = sym opens_so ∙ accepted_by _ _ ho h
 
-    pub no_lengths : refused_lengths n q ≡ lengths_answer_of (container_judged k b) (container_answered k b)
-    unfolding lengths_answer_of
-    no_lengths = nothing lengths_answer_of
+        pub asked_refused : {r : Refusal} → o ≡ Err r → Err r ≡ container_part k b x
+        unfolding container_occurrence
+        asked_refused h = rw (← data_stop h)
 
-    pub no_opening : refused_opening n q ≡ container_opening_of k b
-    unfolding container_opening_of
-    no_opening = let e = refuses_before k b (before_is h) in rw e
+        pub asked_shown : {z : A} → o ≡ Ok z → p.asked ≡ container_part k b x
+        unfolding container_occurrence
+        asked_shown h = let a = opens_all h in asked_is ∙ rw a
 
-    no_values : container_answered k b ≡ (λ x. unset)
-    no_values = λ i x. shows_nothing k b (before_is h) x i
+      pub opening_is : {o : Result Opening Refusal} → o ≡ opening_of (opened k d) (file_edition_of (u32_at d 0)) (edition_read_of k d) → {y : Opening} → o ≡ Ok y
+          → Ok (record { parts = p.parts; file_edition = y.file_edition; edition_read = y.edition_read }) ≡ container_opening_of k b
+      unfolding container_opening_of
+      opening_is ho {y} h =
+          let v = value_by _ _ ho h in
+          let f = ap (λ (q : Opening). q.file_edition) v in
+          let r = ap (λ (q : Opening). q.edition_read) v in
+          let n = count_is in
+          rw (n, f, r, hd) (accepts _ _ (sym (opens_all _ ho h)))
 
-    pub no_view : (v : View) {s : Span} → s ≡ refused_span n q
-        → SpanShows b (queried (container_judged k b) (container_answered k b (question_of v))) (bytes_of (container_answered k b (question_of v)))
-        (points_of v (container_answered k b)) s
-    unfolding queried ◌then◌
-    no_view v e = rw (refuses_before k b (before_is h), no_values, no_points v, e) (refused_shows b n q)
+      pub placed_is : {o : Result PlacesAnswer Refusal} → o ≡ opened_places k d → {y : PlacesAnswer} → o ≡ Ok y
+          → Ok (record { parts = p.parts; file_edition = y.file_edition; places = moved_by p.start y.places }) ≡ container_places_of k b
+      unfolding opened_places container_places_of container_places
+      placed_is ho {y} h =
+          let a = opens_all _ ho h in
+          let v = value_by _ _ ho h in
+          let f = ap (λ (q : PlacesAnswer). q.file_edition) v in
+          let g = ap (λ (q : PlacesAnswer). q.places) v in
+          let n = count_is in
+          let s = start_is in
+          let room : start_found b (find b psv0) + length (psv_of b) ≤ 16777216 = omega (arith, (psv_there k b a).room, all_short) in
+          let m = moved_places k (start_found b (find b psv0)) (psv_of b) (data_opens k b a) room in
+          rw (n, f, g, s, hd, m) (accepts _ _ (sym a))
 
-    pub no_section : (l : List ℕ) {s : Span} → s ≡ refused_span n q
-        → SpanShows b (container_judged k b) (bytes_beside (container_judged k b) l) Points.Unset s
-    no_section l e = rw (refuses_before k b (before_is h), e) (refused_shows b n q)
+    -- ---- a stretch of the data is one of the container
+    module _ {d : List ℕ} (hd : d ≡ take (p.end - p.start) (drop p.start b)) where
+      data_length : length d ≡ p.end - p.start
+      data_length =
+          let i = within in
+          rw hd (length-take-le (p.end - p.start) (drop p.start b) (simp length-drop (omega (arith, i.0, i.1))))
 
-    pub no_part : (x : ℕ) → refused_part (Refused n q) ≡ container_part k b x
-    unfolding container_occurrence
-    no_part x = let e = refuses_before k b (before_is h) in rw e
+      module _ {v : Verdict} {l : List ℕ} {c : Option ℕ} {o : Result Span Refusal} (h : SpanShows d v l c o) where
+        pub start_short : {s : Span} → o ≡ Ok s → p.start + s.start ≤ 16777216
+        start_short g = let i = within in omega (arith, (h.shown g).inside, data_length, i.0, i.1, all_short)
 
--- ---- an opening
-beside_if : (v : Verdict) (parts f e : ℕ) → opening_if v parts (number_beside v f) (number_beside v e) ≡ opening_if v parts f e
-beside_if Accepted parts f e = refl
-beside_if (Refused n q) parts f e = refl
+        moved_shows : {s m : Span} → o ≡ Ok s → m ≡ record { start = p.start + s.start; points = s.points; len = s.len } → SpanShows b v l c (Ok m)
+        unfolding verdict_of
+        moved_shows {s} g q =
+            let i = within in
+            let f = h.shown g in
+            let j : s.start + s.len ≤ p.end - p.start = rw data_length at f.inside in
+            let y : take s.len (drop s.start d) ≡ l = f.bytes in
+            let a : v ≡ Accepted = sym h.verdict ∙ ap verdict_of g in
+            rw (q, a)
+            (span_shows b
+            (record {
+              inside = omega (arith, i.0, i.1);
+              bytes = sym (part_part b p.start (p.end - p.start) s.start s.len j) ∙ rw (← hd) y;
+              points = f.points;
+            }))
 
-pub opening_is : (k : ℕ) (b : List ℕ) {p : PsvPart} → p ≡ psv_part_of k b → p.verdict ≡ Accepted
-    → {d : List ℕ} → d ≡ psv_of b → {o : Opening} → o ≡ opening_of (opened k d) (file_edition_of (u32_at d 0)) (edition_read_of k d)
-    → opening_if o.verdict p.parts o.file_edition o.edition_read ≡ container_opening_of k b
-unfolding container_opening_of
-opening_is k b {p} hp a {d} e {o} ho =
-    let n = count_is k b hp a in
-    let v : opened k (psv_of b) ≡ container_judged k b = sym (opens_alone k b (before_is k b hp a)) in
-    rw (ho, e, n, v) (beside_if (container_judged k b) (count_of b) _ _)
+        refused_shows : {r : Refusal} {q : Result Span Refusal} → o ≡ Err r → q ≡ Err r → SpanShows b v l c q
+        unfolding verdict_of
+        refused_shows g e =
+            let n = h.refused g in
+            rw (n.0, n.1) (nothing_shows b e (sym h.verdict ∙ ap verdict_of g))
 
--- ---- an opening with its places
-module _ (k : ℕ) (b : List ℕ) {p : PsvPart} (hp : p ≡ psv_part_of k b) where
-  pub no_places_lem : {n q : ℕ} → p.verdict ≡ Refused n q → refused_places n q ≡ container_places_of k b
-  unfolding container_places_of
-  no_places_lem h = let e = refuses_before k b (before_is k b hp h) in rw e
+      whole : d ≡ psv_of b
+      whole = hd ∙ data_is
 
-  module _ (a : p.verdict ≡ Accepted) where
-    all_short : length b ≤ 16777216
-    all_short = (accepted_told b (before_told k b (before_is k b hp a)).table).header.short
+      -- a view of the data, and of the container
+      module _ (v : View) {o : Result Span Refusal}
+          (h : SpanShows d (queried (opened k d) (answered k d (question_of v))) (bytes_of (answered k d (question_of v))) (points_of v (answered k d)) o) where
+        of_view : {q : Result Span Refusal}
+            → SpanShows b (queried (opened k d) (answered k d (question_of v))) (bytes_of (answered k d (question_of v))) (points_of v (answered k d)) q
+            → SpanShows b (queried (container_judged k b) (container_answered k b (question_of v))) (bytes_of (container_answered k b (question_of v)))
+            (points_of v (container_answered k b)) q
+        of_view g =
+            let j = opens_so whole in
+            let a = answers_so whole in
+            rw (← j, ← a) g
 
-    pub psv0_short : p.start ≤ 16777216
-    psv0_short = omega (arith, order k b hp a, inside k b hp a, all_short)
+        pub view_shows : {s m : Span} → o ≡ Ok s → m ≡ record { start = p.start + s.start; points = s.points; len = s.len }
+            → SpanShows b (queried (container_judged k b) (container_answered k b (question_of v))) (bytes_of (container_answered k b (question_of v)))
+            (points_of v (container_answered k b)) (Ok m)
+        view_shows g e = of_view (moved_shows h g e)
 
-    start_is : p.start ≡ start_found b (find b psv0)
-    start_is = ap (λ (q : PsvPart). q.start) (found k b hp a)
+        pub view_refused : {r : Refusal} {q : Result Span Refusal} → o ≡ Err r → q ≡ Err r
+            → SpanShows b (queried (container_judged k b) (container_answered k b (question_of v))) (bytes_of (container_answered k b (question_of v)))
+            (points_of v (container_answered k b)) q
+        view_refused g e = of_view (refused_shows h g e)
 
-    pub places_are : {d : List ℕ} → d ≡ psv_of b → {o : PlacesAnswer} → o ≡ opened_places k d
-        → placed_if o.verdict p.parts o.file_edition (moved_by p.start o.places) ≡ container_places_of k b
-    unfolding opened_places container_places_of container_places
-    places_are e ho =
-        let n = count_is k b hp a in
-        let v : opened k (psv_of b) ≡ container_judged k b = sym (opens_alone k b (before_is k b hp a)) in
-        rw (ho, e, n, start_is, v) (go (container_judged k b) refl)
-      where
-        go : (w : Verdict) → container_judged k b ≡ w
-            → placed_if w (count_of b) (number_beside w (file_edition_of (u32_at (psv_of b) 0)))
-            (moved_by (start_found b (find b psv0)) (places_beside w (places_at 0 (edition_read_of k (psv_of b)) (psv_of b))))
-            ≡ placed_if w (count_of b) (file_edition_of (u32_at (psv_of b) 0)) (places_at (start_found b (find b psv0)) (edition_read_of k (psv_of b)) (psv_of b))
-        go Accepted q =
-            let room : start_found b (find b psv0) + length (psv_of b) ≤ 16777216 = omega (arith, (psv_there k b q).room, all_short) in
-            ap (λ x. record { verdict = Accepted; parts = count_of b; file_edition = file_edition_of (u32_at (psv_of b) 0); places = x })
-            (moved_places k (start_found b (find b psv0)) (psv_of b) (data_opens k b q) room)
-        go (Refused n m) q = refl
+      -- a section of the data, and of the container
+      module _ (t : handed.Section) {o : Result Span Refusal}
+          (h : SpanShows d (opened k d) (bytes_beside (opened k d) (handed.handed (edition_read_of k d) d t)) None o) where
+        of_section : {q : Result Span Refusal} → SpanShows b (opened k d) (bytes_beside (opened k d) (handed.handed (edition_read_of k d) d t)) None q
+            → SpanShows b (container_judged k b) (bytes_beside (container_judged k b) (handed.handed (edition_read_of k (psv_of b)) (psv_of b) t)) None q
+        of_section g = let j = opens_so whole in rw (← j, ← whole) g
 
--- ---- a stretch of the PSV0 data is one of the container
-module _ (k : ℕ) (b : List ℕ) {p : PsvPart} (hp : p ≡ psv_part_of k b) (a : p.verdict ≡ Accepted) {d : List ℕ}
-    (hd : d ≡ take (p.end - p.start) (drop p.start b)) where
-  data_length : length d ≡ p.end - p.start
-  data_length =
-      rw hd (length-take-le (p.end - p.start) (drop p.start b) (simp length-drop (omega (arith, order k b hp a, inside k b hp a))))
+        pub section_shows : {s m : Span} → o ≡ Ok s → m ≡ record { start = p.start + s.start; points = s.points; len = s.len }
+            → SpanShows b (container_judged k b) (bytes_beside (container_judged k b) (handed.handed (edition_read_of k (psv_of b)) (psv_of b) t)) None (Ok m)
+        section_shows g e = of_section (moved_shows h g e)
 
-  pub start_short : {v : Verdict} {l : List ℕ} {c : Points} {s : Span} → SpanShows d v l c s → p.start + s.start ≤ 16777216
-  start_short h =
-      let z = (before_told k b (before_is k b hp a)).table in
-      omega (arith, h.inside, data_length, order k b hp a, inside k b hp a, (accepted_told b z).header.short)
+        pub section_refused : {r : Refusal} {q : Result Span Refusal} → o ≡ Err r → q ≡ Err r
+            → SpanShows b (container_judged k b) (bytes_beside (container_judged k b) (handed.handed (edition_read_of k (psv_of b)) (psv_of b) t)) None q
+        section_refused g e = of_section (refused_shows h g e)
 
-  accepted_shows : {l : List ℕ} {c : Points} {s : Span} → SpanShows d Accepted l c s
-      → SpanShows b Accepted l c (record { verdict = Accepted; start = p.start + s.start; len = s.len; points = s.points })
-  accepted_shows {l} {c} {s} h =
-      let i : s.start + s.len ≤ p.end - p.start = rw data_length at h.inside in
-      let e : take s.len (drop s.start d) ≡ l = h.bytes in
-      record {
-        verdict = refl;
-        inside = omega (arith, order k b hp a, inside k b hp a);
-        bytes = sym (part_part b p.start (p.end - p.start) s.start s.len i) ∙ rw (← hd) e;
-        refused = λ n q z. absurd (let y : ◌≡◌ {A = ℕ} 0 1 = cc in omega arith);
-        points = h.points;
-      }
-
-  pub moved_shows : (v : Verdict) {l : List ℕ} {c : Points} {s r : Span} → SpanShows d v l c s
-      → r ≡ moved_span s.verdict (p.start + s.start) s.len s.points → SpanShows b v l c r
-  moved_shows Accepted h e = rw (e, h.verdict) (accepted_shows h)
-  moved_shows (Refused n q) {l} {c} {s} h e =
-      let z : l ≡ [] = sym h.bytes ∙ rw (h.refused n q refl).1 in
-      let y : c ≡ Points.Unset = sym h.points ∙ (h.refused n q refl).2 in
-      rw (e, h.verdict, z, y) (refused_shows b n q)
-
-  pub view_shows : (v : View) {s r : Span}
-      → SpanShows d (queried (opened k d) (answered k d (question_of v))) (bytes_of (answered k d (question_of v))) (points_of v (answered k d)) s
-      → r ≡ moved_span s.verdict (p.start + s.start) s.len s.points
-      → SpanShows b (queried (container_judged k b) (container_answered k b (question_of v))) (bytes_of (container_answered k b (question_of v)))
-      (points_of v (container_answered k b)) r
-  view_shows v {s} {r} h e =
-      let y = hd ∙ data_is k b hp a in
-      let f = before_is k b hp a in
-      let o : opened k d ≡ container_judged k b = rw y (sym (opens_alone k b f)) in
-      let w : answered k d ≡ container_answered k b = rw y (sym (λ i x. shows_alone k b f x i)) in
-      rw (← o, ← w) (moved_shows (queried (opened k d) (answered k d (question_of v))) h e)
-
-  pub section_shows : (x : handed.Section) {s r : Span}
-      → SpanShows d (opened k d) (bytes_beside (opened k d) (handed.handed (edition_read_of k d) d x)) Points.Unset s
-      → r ≡ moved_span s.verdict (p.start + s.start) s.len s.points
-      → SpanShows b (container_judged k b) (bytes_beside (container_judged k b) (handed.handed (edition_read_of k (psv_of b)) (psv_of b) x)) Points.Unset r
-  section_shows x {s} {r} h e =
-      let y = hd ∙ data_is k b hp a in
-      let o : opened k d ≡ container_judged k b = rw y (sym (opens_alone k b (before_is k b hp a))) in
-      rw (← o, ← y) (moved_shows (opened k d) h e)
-
--- ---- one part
-part_beside_lem : (v : Verdict) (b : List ℕ) (x : ℕ) → part_beside v (part_at b (find_occurrence b x 0)) ≡ part_if v b x 0
-part_beside_lem Accepted b x = refl
-part_beside_lem (Refused n q) b x = refl
-
-pub part_is : (k : ℕ) (b : List ℕ) {p : PsvPart} → p ≡ psv_part_of k b → p.verdict ≡ Accepted
-    → {d : List ℕ} → d ≡ psv_of b → {v : Verdict} → v ≡ opened k d → (x : ℕ) {q : Part} → q ≡ part_of b x
-    → part_beside v q ≡ container_part k b x
-unfolding container_occurrence
-part_is k b hp a {d} e {v} hv x hq =
-    let f = before_is k b hp a in
-    let z = (before_told k b f).table in
-    let o : v ≡ container_judged k b = hv ∙ rw e (sym (opens_alone k b f)) in
-    let q : part_of b x ≡ part_at b (find_occurrence b x 0) = unfold occurrence_of in rw z in
-    rw (o, hq, q) (part_beside_lem (container_judged k b) b x)
-
-pub no_edition_part : (k : ℕ) (b : List ℕ) (x : ℕ) → 3 < k → refused_part (Refused 25 0) ≡ container_part k b x
+pub no_edition_part : (k : ℕ) (b : List ℕ) (x : ℕ) → 3 < k → container_part k b x ≡ Err (record { number = 25; place = 0 })
 unfolding container_occurrence container_judged before_psv check ◌then◌
 no_edition_part k b x h = simp (lt-leb _ _ h)
 
 -- ---- what an opening shows
-verdict_if : (v : Verdict) (n f e : ℕ) → (opening_if v n f e).verdict ≡ v
-verdict_if Accepted n f e = refl
-verdict_if (Refused m p) n f e = refl
-
-module _ (k : ℕ) (b : List ℕ) {o : ContainerOpening} (e : o ≡ container_opening_of k b) where
-  pub opening_verdict : o.verdict ≡ container_judged k b
+module _ (k : ℕ) (b : List ℕ) {w : Result ContainerOpening Refusal} (hw : w ≡ container_opening_of k b) where
+  pub opening_verdict : verdict_of w ≡ container_judged k b
   unfolding container_opening_of
-  opening_verdict = ap (λ (q : ContainerOpening). q.verdict) e ∙ verdict_if (container_judged k b) _ _ _
+  opening_verdict = verdict_is _ _ hw
 
-  module _ (h : o.verdict ≡ Accepted) where
-    pub opening_parts : o.parts ≡ count_of b
+  pub opening_refused : {r : Refusal} → w ≡ Err r → container_judged k b ≡ Refused r.number r.place
+  unfolding container_opening_of
+  opening_refused e = refused_by _ _ hw e
+
+  module _ {o : ContainerOpening} (e : w ≡ Ok o) where
+    pub opening_accepted : container_judged k b ≡ Accepted
     unfolding container_opening_of
-    opening_parts = let a = sym opening_verdict ∙ h in rw (e, a)
+    opening_accepted = accepted_by _ _ hw e
+
+    shown_so : o ≡ record { parts = count_of b; file_edition = file_edition_of (u32_at (psv_of b) 0); edition_read = edition_read_of k (psv_of b) }
+    unfolding container_opening_of
+    shown_so = value_by _ _ hw e
+
+    pub opening_parts : o.parts ≡ count_of b
+    opening_parts = ap (λ (q : ContainerOpening). q.parts) shown_so
 
     pub opening_edition : o.file_edition ≡ file_edition_of (u32_at (psv_of b) 0)
-    unfolding container_opening_of
-    opening_edition = let a = sym opening_verdict ∙ h in rw (e, a)
+    opening_edition = ap (λ (q : ContainerOpening). q.file_edition) shown_so
 
 -- ---- what an opening with places shows
-placed_verdict_if : (v : Verdict) (n f : ℕ) (p : SectionPlaces) → (placed_if v n f p).verdict ≡ v
-placed_verdict_if Accepted n f p = refl
-placed_verdict_if (Refused m q) n f p = refl
-
-module _ (k : ℕ) (b : List ℕ) {o : ContainerPlaces} (e : o ≡ container_places_of k b) where
-  placed_verdict : o.verdict ≡ container_judged k b
+module _ (k : ℕ) (b : List ℕ) {w : Result ContainerPlaces Refusal} (hw : w ≡ container_places_of k b) where
+  pub placed_refused : {r : Refusal} → w ≡ Err r → container_judged k b ≡ Refused r.number r.place
   unfolding container_places_of
-  placed_verdict = ap (λ (q : ContainerPlaces). q.verdict) e ∙ placed_verdict_if (container_judged k b) _ _ _
+  placed_refused e = refused_by _ _ hw e
 
-  pub placed_info : o.verdict ≡ Accepted → info_by o.places b ≡ info_answer_of (container_judged k b) (container_answered k b)
+  pub placed_info : {o : ContainerPlaces} → w ≡ Ok o → info_by o.places b ≡ info_answer_of (container_judged k b) (container_answered k b)
   unfolding container_places_of
-  placed_info a =
-      let h = sym placed_verdict ∙ a in
-      let p : o.places ≡ container_places k b = ap (λ (q : ContainerPlaces). q.places) e ∙ rw h in
-      rw p (info_fresh k b h)
+  placed_info e =
+      let p = ap (λ (q : ContainerPlaces). q.places) (value_by _ _ hw e) in
+      rw p (info_fresh k b (accepted_by _ _ hw e))
 
-  pub no_placed_info : {n p : ℕ} → o.verdict ≡ Refused n p → refused_info n p ≡ info_answer_of (container_judged k b) (container_answered k b)
-  unfolding info_answer_of container_answered
-  no_placed_info a = let h = sym placed_verdict ∙ a in λ i. info_answer_of (sym h i) (λ q. beside (sym h i) (shown k (psv_of b) q))
+  pub no_placed_info : {r : Refusal} → w ≡ Err r → Err r ≡ info_answer_of (container_judged k b) (container_answered k b)
+  unfolding info_answer_of
+  no_placed_info e = refuses _ _ refl (sym (placed_refused e))

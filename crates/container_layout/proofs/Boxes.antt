@@ -7,9 +7,7 @@ use mathlib.Core.List.{List, [], ◌∷◌, ◌++◌}
 use lib.ListN.{length, get_or, replicate}
 use Rattle.constants.specs.Edition.{file_edition_of}
 use Rattle.wire.specs.Number.{u16_at, u32_at}
-use Rattle.wire.specs.Verdict.{◌then◌, check, when, from, each}
-use Rattle.wire.specs.declared.Verdict.{Verdict}
-use Rattle.wire.specs.declared.Verdict.TheVariants.{Accepted, Refused}
+use Rattle.wire.specs.Verdict.{◌then◌, check, when, from, each, Verdict, Accepted, Refused}
 use Rattle.part_table_layout.specs.Lookup.{find}
 use Rattle.part_table_layout.specs.Table.{count_of, offset_at, name_at, size_at, data_at, end_at, earliest, part_judged, may_repeat, may_stand, name_judged, header_judged, parts_judged, table_judged}
 use Rattle.utf8_layout.specs.Sequence.{table, fits, front, more, after, counted as sequences_of, well_formed, code_points}

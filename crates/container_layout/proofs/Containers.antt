@@ -1,5 +1,6 @@
 -- What opening a container says of its PSV0 part, and what stays the same in a widening.
 -- Assumes nothing.
+use Rattle.std.specs.Prelude.{None, Option, Some}
 use Prim.Native.Nat.{ℕ, ◌≤◌, ◌<◌}
 use mathlib.Core.Path.{◌≡◌, refl, sym, ◌∙◌, ap}
 use mathlib.Core.Bool.{true, true≢false}
@@ -10,13 +11,10 @@ use lib.Dec.{leb, ltb}
 use lib.ListN.{length, length-take, length-drop}
 use borrow.Author.Tests.{le-leb}
 use Rattle.wire.specs.Number.{u32_at}
-use Rattle.wire.specs.Verdict.{◌then◌, check}
-use Rattle.wire.specs.declared.Verdict.TheVariants.{Accepted, Refused}
+use Rattle.wire.specs.Verdict.{◌then◌, check, Accepted, Refused}
 use Rattle.wire.proofs.Verdicts.{check_then, check_accepted, then_accepted, accepted_then, checked}
 use Rattle.part_table_layout.specs.Lookup.{find, find_occurrence}
 use Rattle.part_table_layout.specs.Table.{may_repeat, count_of, name_at, data_at, table_judged}
-use Rattle.part_table_layout.specs.declared.Found.{Found}
-use Rattle.part_table_layout.specs.declared.Found.TheVariants.{At, Nothing}
 use Rattle.part_table_layout.proofs.Accepted.{accepted_told, data_length}
 use Rattle.part_table_layout.proofs.Lookups.{find_told, found_alone, first_occurrence}
 use Rattle.part_table_layout.proofs.Occurrences.{occurrence_agree}
@@ -28,10 +26,10 @@ use Rattle.container_layout.specs.Container.{dxil, psv0, is_there, size_found, d
 use Rattle.container_layout.specs.Widened.{WiderContainer}
 
 -- ---- the PSV0 part of an accepted table is no longer than a container may be
-data_short : (b : List ℕ) (f : Found) → length (data_found b f) ≤ length b
+data_short : (b : List ℕ) (f : Option ℕ) → length (data_found b f) ≤ length b
 unfolding data_at
-data_short b (At k) = simp (length-take, length-drop) (omega arith)
-data_short b Nothing = omega arith
+data_short b (Some k) = simp (length-take, length-drop) (omega arith)
+data_short b None = omega arith
 
 pub psv_short : (b : List ℕ) → table_judged b ≡ Accepted → length (psv_of b) ≤ 16777216
 unfolding psv_of
@@ -39,11 +37,11 @@ psv_short b h = le_trans (data_short b (find b psv0)) (accepted_told b h).header
 
 -- ---- DXIL and PSV0 are found wherever they stand, whatever PRIV parts stand beside them: their names may not repeat
 module _ (b : List ℕ) (h : table_judged b ≡ Accepted) (k : ℕ) (l : k < count_of b) where
-  pub program_found : name_at b k ≡ dxil → find b dxil ≡ At k
+  pub program_found : name_at b k ≡ dxil → find b dxil ≡ Some k
   unfolding may_repeat u32_at
   program_found = found_alone b h dxil refl k l
 
-  pub psv0_found : name_at b k ≡ psv0 → find b psv0 ≡ At k
+  pub psv0_found : name_at b k ≡ psv0 → find b psv0 ≡ Some k
   unfolding may_repeat u32_at
   psv0_found = found_alone b h psv0 refl k l
 
@@ -124,9 +122,9 @@ module _ (b b' : List ℕ) (w : SameParts b b') where
   unfolding u32_at
   program_same t = rw (find_same dxil) (go (find b dxil) refl)
     where
-      go : (f : Found) → find b dxil ≡ f → size_found b' f ≡ size_found b f
-      go Nothing e = refl
-      go (At i) e =
+      go : (f : Option ℕ) → find b dxil ≡ f → size_found b' f ≡ size_found b f
+      go None e = refl
+      go (Some i) e =
           let n = find_told b dxil i e in
           let l = n.listed in
           let l' : i < count_of b' = rw w.counts l in
@@ -152,6 +150,6 @@ module _ (k : ℕ) (b b' : List ℕ) (w : WiderContainer k b b') where
   unfolding psv_of
   psv_wider t = rw (find_same b b' (wider_parts k b b' w) psv0) (go (find b psv0) refl t)
     where
-      go : (f : Found) → find b psv0 ≡ f → is_there f ≡ true → Widening k (data_found b f) (data_found b' f)
-      go Nothing e t = absurd (true≢false (sym t))
-      go (At i) e t = let n = find_told b psv0 i e in w.psv i n.listed n.named
+      go : (f : Option ℕ) → find b psv0 ≡ f → is_there f ≡ true → Widening k (data_found b f) (data_found b' f)
+      go None e t = absurd (true≢false (sym t))
+      go (Some i) e t = let n = find_told b psv0 i e in w.psv i n.listed n.named

@@ -10,9 +10,7 @@ use borrow.Author.Tests.{le-leb}
 use Rattle.constants.specs.Edition.{file_edition_of}
 use Rattle.constants.proofs.Editions.{edition_few}
 use Rattle.wire.specs.Number.{u32_at}
-use Rattle.wire.specs.Verdict.{◌then◌, check, when, from}
-use Rattle.wire.specs.declared.Verdict.{Verdict}
-use Rattle.wire.specs.declared.Verdict.TheVariants.{Accepted, Refused}
+use Rattle.wire.specs.Verdict.{◌then◌, check, when, from, Verdict, Accepted, Refused}
 use Rattle.part_table_layout.specs.Table.{header_judged, part_judged, name_judged, parts_judged, table_judged}
 use Rattle.psv0_layout.specs.Judged.{head_judged, fields_judged, body_fits, element_judged, elements_judged, entry_judged, judged_at}
 use Rattle.psv0_layout.specs.Layout.{edition_read_of, default_edition}

@@ -7,7 +7,7 @@ use native.Mathlib.Omega.{arith}
 use borrow.Author.Tests.{le-leb, leb-true}
 use Rattle.constants.specs.Edition.{size_of}
 use Rattle.wire.specs.Number.{u32_at}
-use Rattle.wire.specs.declared.Verdict.TheVariants.{Accepted, Refused}
+use Rattle.wire.specs.Verdict.{Accepted, Refused}
 use Rattle.wire.proofs.Verdicts.{◌⊑◌, then_⊑, refused_on, accepted_back}
 use Rattle.psv0_layout.specs.Shown.{unset, Question}
 use Rattle.psv0_layout.proofs.EditionOrder.{judged_⊑, read_newer, shown_newer}

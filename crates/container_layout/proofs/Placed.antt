@@ -1,14 +1,13 @@
 -- "For the bytes it was made from, each answer equals the fresh one": of whole containers.
 -- Assumes nothing.
+use Rattle.std.specs.Prelude.{None, Option, Some}
 use Prim.Native.Nat.{ℕ}
 use mathlib.Core.Path.{◌≡◌, refl, sym, ◌∙◌}
 use mathlib.Core.Bool.{true, true≢false}
 use mathlib.Core.List.{List}
-use Rattle.wire.specs.declared.Verdict.TheVariants.{Accepted}
+use Rattle.wire.specs.Verdict.{Accepted}
 use Rattle.part_table_layout.specs.Lookup.{find}
 use Rattle.part_table_layout.specs.Table.{data_at, table_judged}
-use Rattle.part_table_layout.specs.declared.Found.{Found}
-use Rattle.part_table_layout.specs.declared.Found.TheVariants.{At, Nothing}
 use Rattle.part_table_layout.proofs.Accepted.{part_inside, data_length}
 use Rattle.part_table_layout.proofs.Lookups.{find_told}
 use Rattle.psv0_layout.specs.Handed.{Section, handed}
@@ -25,9 +24,9 @@ use Rattle.container_layout.specs.Placed.{container_places}
 use Rattle.container_layout.proofs.Containers.{before_told, opened_told, data_opens}
 
 -- the data of a part that was found are the bytes from its place on
-found_there : (b : List ℕ) (x : ℕ) → table_judged b ≡ Accepted → (f : Found) → find b x ≡ f → is_there f ≡ true → PartAt b (data_found b f) (start_found b f)
-found_there b x t Nothing e p = absurd (true≢false (sym p))
-found_there b x t (At i) e p =
+found_there : (b : List ℕ) (x : ℕ) → table_judged b ≡ Accepted → (f : Option ℕ) → find b x ≡ f → is_there f ≡ true → PartAt b (data_found b f) (start_found b f)
+found_there b x t None e p = absurd (true≢false (sym p))
+found_there b x t (Some i) e p =
     let l = (find_told b x i e).listed in
     let n = data_length b t i l in
     let m = part_inside b t i l in

@@ -1,6 +1,7 @@
 -- Reports on one part: what two editions' reports have in common, what a widening keeps, and the steps of the code.
 -- They hold of whatever judges the part's data, so that each report states them in a few lines.
 -- Assumes nothing.
+use Rattle.std.specs.Prelude.{None, Option, Some, Result, Ok, Err, IsErr, IsErrAnd}
 use Prim.Native.Nat.{ℕ, ◌+◌, ◌-◌, ◌≤◌}
 use mathlib.Core.Path.{◌≡◌, refl, sym, ◌∙◌, ap}
 use mathlib.Core.Bool.{true, true≢false}
@@ -10,16 +11,15 @@ use lib.ListN.{length, take, drop, length-drop}
 use lib.Seq.{length-take-le}
 use Rattle.constants.specs.Edition.{size_of}
 use Rattle.wire.specs.Number.{u32_at}
-use Rattle.wire.specs.Verdict.{◌then◌, check}
-use Rattle.wire.specs.declared.Verdict.{Verdict}
-use Rattle.wire.specs.declared.Verdict.TheVariants.{Accepted, Refused}
-use Rattle.wire.proofs.Verdicts.{then_accepted, check_then, stop_then}
+use Rattle.wire.specs.Verdict.{◌then◌, check, under, verdict_of, Verdict, Accepted, Refused}
+use Rattle.wire.specs.declared.Refusal.{Refusal}
+use Rattle.wire.proofs.Verdicts.{then_accepted, check_then, stop_then, refuses}
 use Rattle.part_table_layout.specs.Lookup.{find, find_occurrence, part_at, part_if, data_if}
-use Rattle.part_table_layout.specs.declared.Found.{Found}
-use Rattle.part_table_layout.specs.declared.Found.TheVariants.{At, Nothing}
+use Rattle.part_table_layout.specs.Table.{offset_at, size_at}
 use Rattle.part_table_layout.specs.declared.Part.{Part}
-use Rattle.part_table_layout.proofs.Lookups.{first_occurrence, occurrence_told}
+use Rattle.part_table_layout.proofs.Lookups.{first_occurrence, occurrence_told, ok_err}
 use Rattle.psv0_layout.proofs.Positions.{part_part}
+use Rattle.psv0_layout.proofs.Spans.{passed_err}
 use Rattle.container_layout.specs.Container.{psv0, is_there, start_found, data_found, psv_of, container_judged, container_part, container_occurrence, occurrence_data_of, part_data_of}
 use Rattle.container_layout.specs.Report.{data_named, reported}
 use Rattle.container_layout.specs.Widened.{WiderContainer}
@@ -67,9 +67,9 @@ module _ (k : ℕ) (b b' : List ℕ) (w : WiderContainer k b b') (x : ℕ) (othe
   pub occurrence_kept : (o : ℕ) → data_found b' (find_occurrence b' x o) ≡ data_found b (find_occurrence b x o)
   occurrence_kept o = rw (occurrence_same b b' (wider_parts k b b' w) x o) (go (find_occurrence b x o) refl)
     where
-      go : (f : Found) → find_occurrence b x o ≡ f → data_found b' f ≡ data_found b f
-      go Nothing e = refl
-      go (At i) e = let n = occurrence_told b x o i e in w.others i n.listed (λ q. other (sym n.named ∙ q))
+      go : (f : Option ℕ) → find_occurrence b x o ≡ f → data_found b' f ≡ data_found b f
+      go None e = refl
+      go (Some i) e = let n = occurrence_told b x o i e in w.others i n.listed (λ q. other (sym n.named ∙ q))
 
   pub data_kept : data_named b' x ≡ data_named b x
   unfolding data_named
@@ -81,58 +81,61 @@ module _ (k : ℕ) (b b' : List ℕ) (w : WiderContainer k b b') (x : ℕ) (othe
       reported_open judge x k b' (widening_kept k b b' o long w).opens
       ∙ rw (find_same b b' (wider_parts k b b' w) x, data_kept) (sym (reported_open judge x k b o))
 
--- ---- the steps of the code: r is the part that was asked for
-module _ (k : ℕ) (b : List ℕ) (x : ℕ) {r : Part} (hr : r ≡ container_part k b x) (h : r.verdict ≡ Accepted) where
-  first_part : r ≡ part_at b (find b x)
-  first_part = shown_part k b x 0 hr h ∙ ap (part_at b) (first_occurrence b x)
+-- ---- the steps of the code: r is what the query for the part answers, and p the part
+module _ (k : ℕ) (b : List ℕ) (x : ℕ) {r : Result Part Refusal} (hr : r ≡ container_part k b x) {p : Part} (h : r ≡ Ok p) where
+  first_part : part_at b (find b x) ≡ Ok p
+  first_part = ap (part_at b) (sym (first_occurrence b x)) ∙ shown_part k b x 0 hr h
 
-  there : (part_at b (find b x)).verdict ≡ Accepted
-  there = rw first_part at h
-
-  pub starts_at : r.offset + 8 ≡ start_found b (find b x)
-  starts_at = rw first_part (go (find b x) there)
+  pub starts_at : p.offset + 8 ≡ start_found b (find b x)
+  starts_at = go (find b x) first_part
     where
-      go : (f : Found) → (part_at b f).verdict ≡ Accepted → (part_at b f).offset + 8 ≡ start_found b f
-      go (At i) e = refl
-      go Nothing e = absurd (let z : ◌≡◌ {A = ℕ} 0 1 = cc in omega arith)
+      go : (f : Option ℕ) → part_at b f ≡ Ok p → p.offset + 8 ≡ start_found b f
+      go (Some i) e = let q : p ≡ record { number = i; offset = offset_at b i; size = size_at b i } = cc in ap (λ (u : Part). u.offset + 8) q
+      go None e = ok_err e
 
 -- the data that the query for the part hands out, where the container opens
 pub opened_data : (k : ℕ) (b : List ℕ) (x : ℕ) → container_judged k b ≡ Accepted → part_data_of k b x ≡ data_named b x
 unfolding occurrence_data_of data_named container_occurrence
 opened_data k b x o = rw (o, first_occurrence b x) (go (find b x))
   where
-    go : (f : Found) → data_if (part_at b f).verdict b (part_at b f).number ≡ data_found b f
-    go (At i) = refl
-    go Nothing = refl
+    go : (f : Option ℕ) → data_if (part_at b f) b ≡ data_found b f
+    go (Some i) = refl
+    go None = refl
 
-pub data_there : (k : ℕ) (b : List ℕ) (x : ℕ) {r : Part} → r ≡ container_part k b x → r.verdict ≡ Accepted
-    → take (r.offset + 8 + r.size - (r.offset + 8)) (drop (r.offset + 8) b) ≡ data_named b x
+pub data_there : (k : ℕ) (b : List ℕ) (x : ℕ) {r : Result Part Refusal} → r ≡ container_part k b x → {p : Part} → r ≡ Ok p
+    → take (p.offset + 8 + p.size - (p.offset + 8)) (drop (p.offset + 8) b) ≡ data_named b x
 data_there k b x hr h = part_data k b x 0 hr h ∙ opened_data k b x (opens k b x 0 hr h)
 
-part_verdict : (v : Verdict) (b : List ℕ) (x : ℕ) → (part_if v b x 0).verdict ≡ (v then check (is_there (find b x)) 26 0)
-unfolding ◌then◌ check
+part_verdict : (v : Verdict) (b : List ℕ) (x : ℕ) → verdict_of (part_if v b x 0) ≡ (v then check (is_there (find b x)) 26 0)
+unfolding ◌then◌ check verdict_of
 part_verdict (Refused n p) b x = refl
 part_verdict Accepted b x = rw (first_occurrence b x) (go (find b x))
   where
-    go : (f : Found) → (part_at b f).verdict ≡ check (is_there f) 26 0
-    go (At i) = refl
-    go Nothing = refl
+    go : (f : Option ℕ) → verdict_of (part_at b f) ≡ check (is_there f) 26 0
+    go (Some i) = refl
+    go None = refl
 
 regroup : (a c v : Verdict) → (a then c then v) ≡ ((a then c) then v)
 unfolding ◌then◌
 regroup Accepted c v = refl
 regroup (Refused n p) c v = refl
 
-module _ (judge : List ℕ → Verdict) (k : ℕ) (b : List ℕ) (x : ℕ) {r : Part} (hr : r ≡ container_part k b x) where
-  reported_is : reported judge x k b ≡ (r.verdict then judge (data_named b x))
+module _ (judge : List ℕ → Verdict) (k : ℕ) (b : List ℕ) (x : ℕ) {r : Result Part Refusal} (hr : r ≡ container_part k b x) where
+  reported_is : reported judge x k b ≡ (verdict_of r then judge (data_named b x))
   unfolding reported container_occurrence
   reported_is = rw (hr, part_verdict (container_judged k b) b x) (regroup (container_judged k b) _ _)
 
-  pub no_report : {n p : ℕ} → r.verdict ≡ Refused n p → Refused n p ≡ reported judge x k b
-  no_report h = stop_then r.verdict (judge (data_named b x)) _ _ h ∙ sym reported_is
+  pub no_report : {q : Refusal} → r ≡ Err q → Refused q.number q.place ≡ reported judge x k b
+  unfolding verdict_of
+  no_report h = stop_then (verdict_of r) (judge (data_named b x)) _ _ (ap verdict_of h) ∙ sym reported_is
 
-  pub data_reported : r.verdict ≡ Accepted → judge (data_named b x) ≡ reported judge x k b
-  unfolding ◌then◌
+  -- what `?` returns of a part that is refused
+  pub part_passed : {B : Type 0} (y : B) {w : Result B Refusal} {q : Refusal} → IsErr w × IsErrAnd w (λ (s : Refusal). s ≡ q) → r ≡ Err q
+      → w ≡ under (reported judge x k b) y
+  part_passed y h e = refuses _ _ (passed_err _ h) (no_report e)
+
+  pub data_reported : {p : Part} → r ≡ Ok p → judge (data_named b x) ≡ reported judge x k b
+  unfolding ◌then◌ verdict_of
   data_reported h = sym (reported_is ∙ rw h)
 
 -- ---- a report that accepts: the part's data are accepted, lie inside the container and are its bytes there
@@ -143,31 +146,35 @@ module _ (judge : List ℕ → Verdict) (x : ℕ) (k : ℕ) (b : List ℕ) (a : 
   pub reported_judged : judge (data_named b x) ≡ Accepted
   reported_judged = there_judged.1
 
-  part_there : (container_part k b x).verdict ≡ Accepted
+  part_there : (p : Part) × (container_part k b x ≡ Ok p)
   unfolding container_occurrence
   part_there = rw (reported_opens judge x k b a, first_occurrence b x) (go (find b x) there_judged.0)
     where
-      go : (f : Found) → is_there f ≡ true → (part_at b f).verdict ≡ Accepted
-      go (At i) t = refl
-      go Nothing t = absurd (true≢false (sym t))
+      go : (f : Option ℕ) → is_there f ≡ true → (p : Part) × (part_at b f ≡ Ok p)
+      go (Some i) t = (record { number = i; offset = offset_at b i; size = size_at b i }, refl)
+      go None t = absurd (true≢false (sym t))
 
-  abbrev from : ℕ
-  from = (container_part k b x).offset + 8
+  module _ {p : Part} (h : container_part k b x ≡ Ok p) where
+    data_is : take p.size (drop (p.offset + 8) b) ≡ data_named b x
+    data_is =
+        let z : p.offset + 8 + p.size - (p.offset + 8) ≡ p.size = omega arith in
+        rw z at (data_there k b x refl h)
 
-  data_is : take (container_part k b x).size (drop from b) ≡ data_named b x
-  data_is =
-      let z : from + (container_part k b x).size - from ≡ (container_part k b x).size = omega arith in
-      rw z at (data_there k b x refl part_there)
+    pub reported_size : length (data_named b x) ≡ p.size
+    reported_size =
+        rw (← data_is) (length-take-le _ _ (let f = part_fits k b x 0 refl h in rw length-drop (omega arith)))
 
-  pub reported_size : length (data_named b x) ≡ (container_part k b x).size
-  reported_size =
-      rw (← data_is) (length-take-le _ _ (let f = part_fits k b x 0 refl part_there in rw length-drop (omega arith)))
+    inside_at : start_found b (find b x) + length (data_named b x) ≤ length b
+    inside_at = rw (← (starts_at k b x refl h), reported_size) (part_fits k b x 0 refl h)
+
+    bytes_at : take (length (data_named b x)) (drop (start_found b (find b x)) b) ≡ data_named b x
+    bytes_at = rw (← (starts_at k b x refl h), reported_size) data_is
 
   pub reported_inside : start_found b (find b x) + length (data_named b x) ≤ length b
-  reported_inside = rw (← (starts_at k b x refl part_there), reported_size) (part_fits k b x 0 refl part_there)
+  reported_inside = inside_at part_there.1
 
   pub reported_bytes : take (length (data_named b x)) (drop (start_found b (find b x)) b) ≡ data_named b x
-  reported_bytes = rw (← (starts_at k b x refl part_there), reported_size) data_is
+  reported_bytes = bytes_at part_there.1
 
   -- a part of the data is as long a part of the container
   pub reported_part : (o n : ℕ) → o + n ≤ length (data_named b x)

@@ -1,16 +1,15 @@
 -- The opening of a whole container, and what it shows.
-use Rattle.std.specs.Prelude.{Bool, true, false, List, [], ◌∷◌, ℕ, ◌+◌, leb, ltb}
+use Rattle.std.specs.Prelude.{None, Option, Some}
+use Rattle.std.specs.Prelude.{Bool, true, false, List, [], ◌∷◌, Result, ℕ, ◌+◌, leb, ltb}
 use Rattle.part_table_layout.specs.Lookup.{find, part_if, data_if}
 use Rattle.part_table_layout.specs.Table.{offset_at, size_at, data_at, table_judged}
-use Rattle.part_table_layout.specs.declared.Found.{Found}
-use Rattle.part_table_layout.specs.declared.Found.TheVariants.{At, Nothing}
 use Rattle.part_table_layout.specs.declared.Part.{Part}
 use Rattle.psv0_layout.specs.Judged.{judged_at}
 use Rattle.psv0_layout.specs.Layout.{edition_read_of}
 use Rattle.psv0_layout.specs.Shown.{Value, Question, shown, beside}
 use Rattle.wire.specs.Number.{u32_at}
-use Rattle.wire.specs.Verdict.{◌then◌, check}
-use Rattle.wire.specs.declared.Verdict.{Verdict}
+use Rattle.wire.specs.Verdict.{◌then◌, check, Verdict}
+use Rattle.wire.specs.declared.Refusal.{Refusal}
 
 -- the names `DXIL` and `PSV0`, as numbers
 abbrev pub dxil : ℕ
@@ -19,23 +18,23 @@ dxil = u32_at (68 ∷ 88 ∷ 73 ∷ 76 ∷ []) 0
 abbrev pub psv0 : ℕ
 psv0 = u32_at (80 ∷ 83 ∷ 86 ∷ 48 ∷ []) 0
 
-abbrev pub is_there : Found → Bool
-is_there (At k) = true
-is_there Nothing = false
+abbrev pub is_there : Option ℕ → Bool
+is_there (Some k) = true
+is_there None = false
 
 -- where the data of a part that was looked for start, 0 where there is none
-abbrev pub start_found : List ℕ → Found → ℕ
-start_found b (At k) = offset_at b k + 8
-start_found b Nothing = 0
+abbrev pub start_found : List ℕ → Option ℕ → ℕ
+start_found b (Some k) = offset_at b k + 8
+start_found b None = 0
 
 -- the size of a part that was looked for, 0 where there is none, and its data
-abbrev pub size_found : List ℕ → Found → ℕ
-size_found b (At k) = size_at b k
-size_found b Nothing = 0
+abbrev pub size_found : List ℕ → Option ℕ → ℕ
+size_found b (Some k) = size_at b k
+size_found b None = 0
 
-abbrev pub data_found : List ℕ → Found → List ℕ
-data_found b (At k) = data_at b k
-data_found b Nothing = []
+abbrev pub data_found : List ℕ → Option ℕ → List ℕ
+data_found b (Some k) = data_at b k
+data_found b None = []
 
 -- the PSV0 part's data
 unfoldable pub psv_of : List ℕ → List ℕ
@@ -59,15 +58,15 @@ container_answered k b q = beside (container_judged k b) (shown k (psv_of b) q)
 
 -- one part by its name's number x and its occurrence o: what opening gives, then 26. Document 02, Ask 8: "A query by name takes that first
 -- number too"
-unfoldable pub container_occurrence : ℕ → List ℕ → ℕ → ℕ → Part
+unfoldable pub container_occurrence : ℕ → List ℕ → ℕ → ℕ → Result Part Refusal
 container_occurrence k b x o = part_if (container_judged k b) b x o
 
 -- its data: no bytes where the query refuses
 unfoldable pub occurrence_data_of : ℕ → List ℕ → ℕ → ℕ → List ℕ
-occurrence_data_of k b x o = data_if (container_occurrence k b x o).verdict b (container_occurrence k b x o).number
+occurrence_data_of k b x o = data_if (container_occurrence k b x o) b
 
 -- "without it the first part is meant"
-abbrev pub container_part : ℕ → List ℕ → ℕ → Part
+abbrev pub container_part : ℕ → List ℕ → ℕ → Result Part Refusal
 container_part k b x = container_occurrence k b x 0
 
 abbrev pub part_data_of : ℕ → List ℕ → ℕ → List ℕ

@@ -1,8 +1,7 @@
 -- Reports on one part of a container (document 02): "In every report on a part the opening's refusals come first".
 use Rattle.std.specs.Prelude.{List, ℕ}
 use Rattle.part_table_layout.specs.Lookup.{find}
-use Rattle.wire.specs.Verdict.{◌then◌, check}
-use Rattle.wire.specs.declared.Verdict.{Verdict}
+use Rattle.wire.specs.Verdict.{◌then◌, check, Verdict}
 use Rattle.container_layout.specs.Container.{is_there, data_found, container_judged}
 
 -- the data of the part whose name is the number x; no bytes where there is none

@@ -3,7 +3,7 @@ use Rattle.std.specs.Prelude.{◌≡◌, List, ℕ, ◌<◌}
 use Rattle.container_layout.specs.Container.{psv0}
 use Rattle.part_table_layout.specs.Table.{count_of, name_at, data_at, table_judged}
 use Rattle.psv0_layout.specs.Widened.{Widening}
-use Rattle.wire.specs.declared.Verdict.TheVariants.{Accepted}
+use Rattle.wire.specs.Verdict.{Accepted}
 
 -- "a container of at most 16,777,216 bytes that passes 1 to 9, with the same parts in order, equal but for PSV0, whose data differ only
 -- so": as a widening of the PSV0 data

@@ -5,8 +5,9 @@ use mathlib.Core.Path.{◌≡◌, refl}
 use mathlib.Core.List.{List, [], ◌∷◌, ◌++◌}
 use lib.ListN.{take}
 use Rattle.wire.specs.Number.{u16_at, u32_at}
-use Rattle.wire.specs.Verdict.{◌then◌, check}
-use Rattle.wire.specs.declared.Verdict.TheVariants.{Accepted, Refused}
+use Rattle.wire.specs.Verdict.{◌then◌, check, under, Accepted, Refused}
+use Rattle.std.specs.Prelude.{Result, Ok, Err}
+use Rattle.wire.specs.declared.Refusal.{Refusal}
 use Rattle.dxil_layout.specs.Program.{header_of, bitcode_start, bitcode_end, program_judged, program_of, bitcode_of}
 use Rattle.dxil_layout.specs.declared.Program.{Program}
 use Rattle.dxil_layout.specs.declared.ProgramHeader.{ProgramHeader}
@@ -42,29 +43,16 @@ fields o s =
     }
 
 pub data Row : Type 0 where
-  reads : Program → List ℕ → Row
+  reads : Result Program Refusal → List ℕ → Row
 
 abbrev by : List ℕ → Row
 by d = reads (program_of d) (bitcode_of d)
 
 abbrev accepted : ℕ → ℕ → ℕ → List ℕ → Row
-accepted o s start bytes = reads (record { verdict = Accepted; header = fields o s; start = start; len = s }) bytes
-
-abbrev zeros : ProgramHeader
-zeros =
-    record {
-      version_major = 0;
-      version_minor = 0;
-      stage = 0;
-      words = 0;
-      bitcode_major = 0;
-      bitcode_minor = 0;
-      bitcode_offset = 0;
-      bitcode_size = 0;
-    }
+accepted o s start bytes = reads (Ok (record { header = fields o s; start = start; len = s })) bytes
 
 abbrev refused : ℕ → Row
-refused n = reads (record { verdict = Refused n 0; header = zeros; start = 0; len = 0 }) []
+refused n = reads (Err (record { number = n; place = 0 })) []
 
 abbrev given : List Row
 given =
@@ -93,5 +81,5 @@ said =
     ∷ []
 
 pub boxes_hold : given ≡ said
-unfolding u16_at u32_at ◌then◌ check header_of bitcode_start bitcode_end program_judged program_of bitcode_of
+unfolding u16_at u32_at ◌then◌ check under header_of bitcode_start bitcode_end program_judged program_of bitcode_of
 boxes_hold = refl

@@ -7,12 +7,12 @@ use native.Mathlib.Omega.{arith}
 use lib.ListN.{length, take, drop}
 use borrow.Author.Tests.{le-leb, lt-leb, leb-true}
 use Rattle.wire.specs.Number.{u32_at}
-use Rattle.wire.specs.Verdict.{◌then◌, check}
-use Rattle.wire.specs.declared.Verdict.{Verdict}
-use Rattle.wire.specs.declared.Verdict.TheVariants.{Accepted, Refused}
+use Rattle.wire.specs.Verdict.{◌then◌, check, Accepted, Refused}
+use Rattle.std.specs.Prelude.{Result, Ok, Err}
+use Rattle.wire.specs.declared.Refusal.{Refusal}
 use Rattle.wire.proofs.Choices.{differ, agree}
-use Rattle.wire.proofs.Verdicts.{check_then, check_accepted}
-use Rattle.dxil_layout.specs.Program.{mark, bitcode_start, bitcode_end, program_judged, program_if, program_of, bitcode_of}
+use Rattle.wire.proofs.Verdicts.{check_then, check_accepted, refused_by, accepted_by, value_by, accepts}
+use Rattle.dxil_layout.specs.Program.{mark, bitcode_start, bitcode_end, program_judged, program_shown, program_of, bitcode_of}
 use Rattle.dxil_layout.specs.declared.Program.{Program}
 
 -- ---- 40, 41, 42: m is the mark that was read and k the one that is asked for, o the offset and s the size of the bitcode
@@ -35,37 +35,20 @@ module _ (d : List ℕ) where
       unfolding program_judged bitcode_end check ◌then◌
       inside h = simp (le-leb _ _ l, agree em ek e, le-leb _ _ (rw (eo, es) at h))
 
--- ---- what is shown
-module _ (d : List ℕ) {v : Verdict} (hv : v ≡ program_judged d) where
-  pub none_shown : {n p : ℕ} → v ≡ Refused n p → program_if (Refused n p) [] ≡ program_of d
-  unfolding program_of
-  none_shown e = rw (← hv, e)
+-- ---- a program p that was read
+module _ (d : List ℕ) {w : Result Program Refusal} (hw : w ≡ program_of d) where
+  pub no_bitcode : {r : Refusal} → w ≡ Err r → [] ≡ bitcode_of d
+  unfolding program_of bitcode_of
+  no_bitcode e = rw (refused_by _ _ hw e)
 
-  pub all_shown : v ≡ Accepted → program_if Accepted d ≡ program_of d
-  unfolding program_of
-  all_shown e = rw (← hv, e)
-
-verdict_if : (v : Verdict) (d : List ℕ) → (program_if v d).verdict ≡ v
-verdict_if Accepted d = refl
-verdict_if (Refused n p) d = refl
-
--- ---- the bitcode of a program p that was read
-module _ (d : List ℕ) {p : Program} (hp : p ≡ program_of d) where
-  pub judged_is : p.verdict ≡ program_judged d
-  unfolding program_of
-  judged_is = ap (λ (q : Program). q.verdict) hp ∙ verdict_if (program_judged d) d
-
-  pub no_bitcode : {n q : ℕ} → p.verdict ≡ Refused n q → [] ≡ bitcode_of d
-  unfolding bitcode_of
-  no_bitcode e = rw (← judged_is, e)
-
-  module _ (e : p.verdict ≡ Accepted) where
+  module _ {p : Program} (e : w ≡ Ok p) where
     accepted : program_judged d ≡ Accepted
-    accepted = sym judged_is ∙ e
-
-    shown : p ≡ program_if Accepted d
     unfolding program_of
-    shown = hp ∙ rw accepted
+    accepted = accepted_by _ _ hw e
+
+    shown : p ≡ program_shown d
+    unfolding program_of
+    shown = value_by _ _ hw e
 
     end_inside : bitcode_end d ≤ length d
     unfolding program_judged
@@ -83,3 +66,8 @@ module _ (d : List ℕ) {p : Program} (hp : p ≡ program_of d) where
     bitcode_is =
         let z : p.start + p.len - p.start ≡ p.len = omega arith in
         rw (z, accepted, shown)
+
+-- the data are read where the header's fields are
+pub all_shown : (d : List ℕ) → Accepted ≡ program_judged d → Ok (program_shown d) ≡ program_of d
+unfolding program_of
+all_shown d h = accepts _ _ h

@@ -1,10 +1,9 @@
 -- The data d of a DXIL part: the program header, the bitcode header in it and the bitcode. Document 02, Ask 1; the fields are those of
 -- `ProgramHeader` and `BitcodeHeader` in the public LLVM header. All of it is total: past the end a byte is 0.
-use Rattle.std.specs.Prelude.{List, [], ◌∷◌, ℕ, ◌+◌, ◌/◌, ◌%◌, leb, eqb, length, get_or, take, drop}
+use Rattle.std.specs.Prelude.{Result, List, [], ◌∷◌, ℕ, ◌+◌, ◌/◌, ◌%◌, leb, eqb, length, get_or, take, drop}
 use Rattle.wire.specs.Number.{u16_at, u32_at}
-use Rattle.wire.specs.Verdict.{◌then◌, check}
-use Rattle.wire.specs.declared.Verdict.{Verdict}
-use Rattle.wire.specs.declared.Verdict.TheVariants.{Accepted, Refused}
+use Rattle.wire.specs.Verdict.{◌then◌, check, under, Verdict, Accepted, Refused}
+use Rattle.wire.specs.declared.Refusal.{Refusal}
 use Rattle.dxil_layout.specs.declared.Program.{Program}
 use Rattle.dxil_layout.specs.declared.ProgramHeader.{ProgramHeader}
 
@@ -42,26 +41,12 @@ program_judged d =
     then check (eqb (u32_at d 8) (u32_at mark 0)) 41 0
     then check (leb (bitcode_end d) (length d)) 42 0
 
--- what is shown: zeros beside a refusal
-abbrev pub no_header : ProgramHeader
-no_header =
-    record {
-      version_major = 0;
-      version_minor = 0;
-      stage = 0;
-      words = 0;
-      bitcode_major = 0;
-      bitcode_minor = 0;
-      bitcode_offset = 0;
-      bitcode_size = 0;
-    }
+-- what is shown of data that are accepted
+abbrev pub program_shown : List ℕ → Program
+program_shown d = record { header = header_of d; start = bitcode_start d; len = u32_at d 20 }
 
-abbrev pub program_if : Verdict → List ℕ → Program
-program_if Accepted d = record { verdict = Accepted; header = header_of d; start = bitcode_start d; len = u32_at d 20 }
-program_if (Refused n p) d = record { verdict = Refused n p; header = no_header; start = 0; len = 0 }
-
-unfoldable pub program_of : List ℕ → Program
-program_of d = program_if (program_judged d) d
+unfoldable pub program_of : List ℕ → Result Program Refusal
+program_of d = under (program_judged d) (program_shown d)
 
 -- "a view of the bitcode": no bytes beside a refusal
 abbrev pub bitcode_if : Verdict → List ℕ → List ℕ

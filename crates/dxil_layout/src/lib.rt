@@ -2,9 +2,7 @@
 // a crate of its own.
 #![tactic(auto)]
 
-use wire::Verdict;
-
-// The fields of the program header and of the bitcode header. A refusal has zeros.
+// The fields of the program header and of the bitcode header.
 #[derive(Clone, Copy)]
 pub struct ProgramHeader {
     pub version_major: u32,
@@ -17,10 +15,9 @@ pub struct ProgramHeader {
     pub bitcode_size: u32,
 }
 
-// The verdict, the fields, and the bitcode as a stretch of the data. A refusal has zeros.
+// The fields, and the bitcode as a stretch of the data.
 #[derive(Clone, Copy)]
 pub struct Program {
-    pub verdict: Verdict,
     pub header: ProgramHeader,
     pub start: usize,
     pub len: usize,

@@ -1,74 +1,39 @@
 // The report on the DXIL part of a container, above the opening and the reader of DXIL data through their promises: what opening gives, then
-// 40 to 42; the program header, the bitcode, and the stage that PSV0 shows beside the header's. Beside a refusal nothing of the file is shown.
+// 40 to 42; the program header, the bitcode, and the stage that PSV0 shows beside the header's.
 #![tactic(auto)]
 
-ghost use Rattle.std.specs.Prelude.{◌≡◌, []};
-ghost use Rattle.dxil_report_layout.specs.Reported.{stages_of, report_if, program_report_of, bitcode_reported};
+ghost use Rattle.std.specs.Prelude.{◌≡◌};
+ghost use Rattle.dxil_report_layout.specs.Reported.{stages_of, program_report_of, bitcode_reported};
 
 use dxil_report_layout::{ProgramReport, Stages};
-use psv0_layout::Field;
-use wire::Verdict;
+use wire::Refusal;
 
 // The header's stage beside PSV0's, compared as numbers.
-pub fn compared(stage: u32, other: Field) -> Stages
+pub fn compared(stage: u32, other: Option<u32>) -> Stages
     ensures { result ≡ stages_of stage other }
 {
     match other {
-        Field::Unset => Stages::Unset,
-        Field::Set(n) => {
-            if stage == n {
-                return Stages::Equal;
-            }
-            Stages::Different
-        }
-    }
-}
-
-// What a refusal shows.
-fn refused(n: u8, place: usize) -> ProgramReport
-    ensures { result ≡ report_if (Verdict.Refused n place) 0 [] }
-{
-    ProgramReport {
-        verdict: Verdict::Refused(n, place),
-        header: dxil::no_header(),
-        start: 0,
-        len: 0,
-        psv0_stage: Field::Unset,
-        stages: Stages::Unset,
+        None => Stages::Unset,
+        Some(n) if stage == n => Stages::Equal,
+        Some(_) => Stages::Different,
     }
 }
 
 // The report at an edition.
-pub fn report(b: &[u8], edition: usize) -> ProgramReport
+pub fn report(b: &[u8], edition: usize) -> Result<ProgramReport, Refusal>
     ensures { result ≡ program_report_of edition b.now }
 {
-    let part = container::part(b, edition, b"DXIL");
-    let offset = part.offset;
-    let size = part.size;
-    let v = part.verdict;
-    if let Verdict::Refused(n, place) = v {
-        return refused(n, place);
-    }
-    let start = offset + 8;
-    let end = start + size;
-    let p = dxil::read(&b[start..end]);
-    let judged = p.verdict;
-    if let Verdict::Refused(n, place) = judged {
-        return refused(n, place);
-    }
-    let a = container::runtime_info(b, edition);
-    let info = a.info;
-    let stage = info.stage;
-    let h = p.header;
-    let stages = compared(h.stage, stage);
-    ProgramReport {
-        verdict: Verdict::Accepted,
-        header: h,
+    let part = container::part(b, edition, b"DXIL")?;
+    let start = part.offset + 8;
+    let p = dxil::read(&b[start..start + part.size])?;
+    let psv0_stage = container::runtime_info(b, edition)?.stage;
+    Ok(ProgramReport {
+        header: p.header,
         start: start + p.start,
         len: p.len,
-        psv0_stage: stage,
-        stages: stages,
-    }
+        psv0_stage,
+        stages: compared(p.header.stage, psv0_stage),
+    })
 }
 
 // The bitcode, a part of the caller's slice: no bytes where the report refuses.

@@ -3,8 +3,6 @@
 #![tactic(auto)]
 
 use dxil_layout::ProgramHeader;
-use psv0_layout::Field;
-use wire::Verdict;
 
 // The program header's stage beside the stage that PSV0 shows.
 #[derive(Clone, Copy)]
@@ -14,14 +12,12 @@ pub enum Stages {
     Unset,
 }
 
-// The verdict, the header's fields, the bitcode as a stretch of the container, the stage that PSV0 shows and how the two stages compare.
-// A refusal has zeros, and both are unset.
+// The header's fields, the bitcode as a stretch of the container, the stage that PSV0 shows and how the two stages compare.
 #[derive(Clone, Copy)]
 pub struct ProgramReport {
-    pub verdict: Verdict,
     pub header: ProgramHeader,
     pub start: usize,
     pub len: usize,
-    pub psv0_stage: Field,
+    pub psv0_stage: Option<u32>,
     pub stages: Stages,
 }

@@ -4,9 +4,9 @@
 
 ghost use Rattle.std.specs.Prelude.{◌≤◌};
 
-use arguments::Contents;
-use figures_layout::{Addition, Figures};
-use printing::{number, text};
+use arguments::FileError;
+use figures_layout::{Figures, Full};
+use printing::{number, pair, text};
 
 // A line of a word and a number.
 fn line(word: &[u8], n: usize) {
@@ -15,19 +15,14 @@ fn line(word: &[u8], n: usize) {
     text(b"\n");
 }
 
-// A word and a count further on in a line.
-fn pair(word: &[u8], n: u16) {
-    text(word);
-    number(n as usize);
-}
-
 fn add(f: Figures, i: usize, b: &[u8]) -> Figures {
-    let a = figures_counter::add(f, b);
-    let answer = a.answer;
-    if let Addition::Full = answer {
-        line(b"full ", i);
+    match figures_counter::add(f, b) {
+        Ok(a) => a.figures,
+        Err(Full) => {
+            line(b"full ", i);
+            f
+        }
     }
-    a.figures
 }
 
 // The file that an argument names. Files are counted from 0, arguments from the program's own name.
@@ -35,31 +30,23 @@ fn add_file(rt: &HostRuntime, f: Figures, argument: usize, buffer: &mut [u8]) ->
     requires { 1 ≤ argument }
 {
     let i = argument - 1;
-    let r = arguments::file(rt, argument, buffer);
-    let contents = r.contents;
-    let len = r.len;
-    match contents {
-        Contents::CannotOpen => line(b"cannot open ", i),
-        Contents::TooLong => line(b"too long ", i),
-        Contents::Whole => {
-            return add(f, i, &buffer[..len]);
-        }
+    match arguments::file(rt, argument, buffer) {
+        Ok(b) => return add(f, i, b),
+        Err(FileError::TooLong) => line(b"too long ", i),
+        Err(FileError::CannotOpen) => line(b"cannot open ", i),
     }
     f
 }
 
 // The counts above zero, numbers rising.
 fn counts(word: &[u8], table: &[u16]) {
-    let mut i = 0;
-    while i < table.len() {
-        let n = table[i];
-        if 0 < n {
+    for (i, n) in table.iter().enumerate() {
+        if 0 < *n {
             text(word);
             number(i);
-            pair(b" ", n);
+            pair(b" ", *n);
             text(b"\n");
         }
-        i += 1;
     }
 }
 
@@ -78,25 +65,19 @@ fn show(f: Figures) {
         text(b"nothing was opened\n");
         return;
     }
-    let refusals = f.refusals;
-    counts(b"refusal ", &refusals);
-    let editions = f.editions;
-    counts(b"edition ", &editions);
-    let stages = f.stages;
-    counts(b"stage ", &stages);
+    counts(b"refusal ", &f.refusals);
+    counts(b"edition ", &f.editions);
+    counts(b"stage ", &f.stages);
     if 0 < f.unset {
-        line(b"stage unset ", f.unset as usize);
+        line(b"stage unset ", usize::from(f.unset));
     }
 }
 
 fn main(rt: HostRuntime) {
     let mut buffer = io::large_buffer();
     let mut f = figures_counter::start(1);
-    let n = arguments::count(&rt);
-    let mut argument = 1;
-    while argument < n {
+    for argument in 1..arguments::count(&rt) {
         f = add_file(&rt, f, argument, &mut buffer);
-        argument += 1;
     }
     show(f);
 }

@@ -1,20 +1,25 @@
 -- Sums of two counts, and of two lists of counts.
 -- Assumes nothing.
-use Prim.Native.Nat.{ℕ, suc, ◌+◌, ◌-◌, ◌<◌, ◌≤◌}
+use Prim.Native.Nat.{ℕ, suc, ◌+◌, ◌-◌, min, ◌<◌, ◌≤◌}
+use lib.Dec.{leb}
+use mathlib.Core.Bool.{Bool, true, false}
+use Rattle.wire.specs.Choice.{choose}
 use mathlib.Core.Path.{◌≡◌, refl, sym, ◌∙◌}
 use mathlib.Core.List.{List, [], ◌∷◌, ◌++◌, append-nil, append_assoc}
 use native.Mathlib.Numerals.{add-one}
 use native.Mathlib.Omega.{arith}
 use lib.ListN.{length, get_or, set, take, drop, length-set, drop_of_length-le}
 use lib.Seq.{drop-cons, take-suc-set, drop-set-lt, take_all}
-use borrow.Author.Tests.{le-leb, lt-leb}
+use borrow.Author.Tests.{leb-true, leb-false}
 use Rattle.figures_layout.specs.Figures.{sum_up_to, plus, sums}
 
-pub sum_low : (m a b : ℕ) → b ≤ m - a → a + b ≡ sum_up_to m a b
-sum_low m a b h = rw (le-leb b (m - a) h)
-
-pub sum_high : (m a b : ℕ) → m - a < b → m ≡ sum_up_to m a b
-sum_high m a b h = rw (lt-leb b (m - a) h)
+-- the library's sum that stays at the greatest number of a type
+pub capped : (m a b : ℕ) → a ≤ m → min (a + b) m ≡ sum_up_to m a b
+capped m a b h = go (leb b (m - a)) refl
+  where
+    go : (t : Bool) → leb b (m - a) ≡ t → min (a + b) m ≡ choose t (a + b) m
+    go true e = let l : b ≤ m - a = leb-true _ _ e in omega arith
+    go false e = let l : m - a < b = leb-false _ _ e in omega arith
 
 -- ---- the loop over two lists of counts has come to i, and r holds the sums below it
 pub record Summing (a b r : List ℕ) (i : ℕ) : Type 0 where

@@ -1,22 +1,15 @@
 -- One container more, by its answer.
-use Rattle.std.specs.Prelude.{◌≡◌, ℕ, ◌<◌, eqb}
+use Rattle.std.specs.Prelude.{◌≡◌, ℕ, ◌<◌, eqb, Some}
 use Rattle.wire.specs.Choice.{choose}
-use Rattle.wire.specs.declared.Verdict.TheVariants.{Refused}
-use Rattle.psv0_layout.specs.declared.Field.{Field}
-use Rattle.psv0_layout.specs.declared.Field.TheVariants.{Set}
-use Rattle.figures_layout.specs.declared.Answer.{Answer}
 use Rattle.figures_layout.specs.declared.Figures.{Figures}
+use Rattle.figures_layout.specs.declared.Told.{Told}
 use Rattle.figures_layout.specs.Kinds.{is_stage, is_unset}
 use Rattle.figures_layout.specs.Figures.{most_bytes, sum_up_to, plus, table, sums}
 
--- the tables have a place for the answer, as for every answer of an opening
-abbrev pub StageFits : Field → Type 0
-StageFits s = (n : ℕ) → s ≡ Set n → n < 16
-
-pub record InRange (a : Answer) : Type 0 where
-  pub number : (n p : ℕ) → a.verdict ≡ Refused n p → n < 28
-  pub edition : a.file_edition < 4
-  pub stage : StageFits a.stage
+-- the tables have a place for what is told, as for all that an opening tells
+pub record InRange (t : Told) : Type 0 where
+  pub edition : t.file_edition < 4
+  pub stage : (n : ℕ) → t.stage ≡ Some n → n < 16
 
 -- a refusal with the number n
 unfoldable pub one_refused : Figures → ℕ → Figures
@@ -33,9 +26,9 @@ one_refused f n =
       unset = f.unset;
     }
 
--- an accepted container of edition e, of the stage s and of n bytes
-unfoldable pub one_accepted : Figures → ℕ → Field → ℕ → Figures
-one_accepted f e s n =
+-- an accepted container of n bytes of which t is told
+unfoldable pub one_accepted : Figures → Told → ℕ → Figures
+one_accepted f t n =
     record {
       edition = f.edition;
       bytes = sum_up_to most_bytes f.bytes n;
@@ -43,7 +36,7 @@ one_accepted f e s n =
       accepted = plus f.accepted 1;
       refused = f.refused;
       refusals = f.refusals;
-      editions = sums f.editions (table (λ m. choose (eqb e m) 1 0) 4);
-      stages = sums f.stages (table (λ t. choose (is_stage t s) 1 0) 16);
-      unset = plus f.unset (choose (is_unset s) 1 0);
+      editions = sums f.editions (table (λ m. choose (eqb t.file_edition m) 1 0) 4);
+      stages = sums f.stages (table (λ m. choose (is_stage m t.stage) 1 0) 16);
+      unset = plus f.unset (choose (is_unset t.stage) 1 0);
     }

@@ -2,16 +2,15 @@
 // count wraps: it stays at its greatest number.
 #![tactic(auto)]
 
-ghost use Rattle.std.specs.Prelude.{◌≡◌, [], ◌∷◌, ◌+◌, ◌<◌, min, leb, length};
+ghost use Rattle.std.specs.Prelude.{◌≡◌, ◌<◌, min, leb};
 ghost use Rattle.psv0_layout.specs.Answers.{field_of};
 ghost use Rattle.psv0_layout.specs.Shown.{number, set_if};
 ghost use Rattle.figures_layout.specs.Kinds.{answer_of};
-ghost use Rattle.figures_layout.specs.Figures.{most_bytes, sum_up_to, plus, figures_of, sums, summed, joined, started, added};
-ghost use Rattle.figures_counter.specs.Steps.{StageFits, InRange, one_refused, one_accepted};
+ghost use Rattle.figures_layout.specs.Figures.{sums, summed, joined, started, added};
+ghost use Rattle.figures_counter.specs.Steps.{InRange, one_refused, one_accepted};
 
-use figures_layout::{AddAnswer, Addition, Answer, Figures, JoinAnswer, Joining};
-use psv0_layout::Field;
-use wire::Verdict;
+use figures_layout::{Addition, Figures, Full, JoinError, Told};
+use wire::Refusal;
 
 // No container, at an edition.
 pub fn start(edition: usize) -> Figures
@@ -23,192 +22,120 @@ pub fn start(edition: usize) -> Figures
         opened: 0,
         accepted: 0,
         refused: 0,
-        refusals: [0u16; 28],
-        editions: [0u16; 4],
-        stages: [0u16; 16],
+        refusals: [0; 28],
+        editions: [0; 4],
+        stages: [0; 16],
         unset: 0,
     }
-}
-
-fn sum(a: u16, b: u16) -> u16
-    ensures { result ≡ plus a b }
-{
-    if b <= 65535 - a {
-        return a + b;
-    }
-    65535
-}
-
-fn sum_bytes(a: u64, b: u64) -> u64
-    ensures { result ≡ sum_up_to most_bytes a b }
-{
-    if b <= 18446744073709551615 - a {
-        return a + b;
-    }
-    18446744073709551615
 }
 
 // ---- one container more
 
 // The stage that a reading at an edition shows of a file.
-fn stage_shown(stage: u8, edition: usize, file_edition: usize) -> Field
+fn stage_shown(stage: u8, edition: usize, file_edition: usize) -> Option<u32>
     ensures { result ≡ field_of (set_if (leb 1 (min edition file_edition)) (number stage)) }
 {
-    if edition == 0 {
-        return Field::Unset;
-    }
-    if file_edition == 0 {
-        return Field::Unset;
-    }
-    Field::Set(stage as u32)
+    (1 <= edition.min(file_edition)).then_some(u32::from(stage))
 }
 
 // What opening a container tells. Asking for its PSV0 part is one opening, and says where S and the stage are.
-fn answer(b: &[u8], edition: usize) -> Answer
-    ensures { result ≡ answer_of edition b.now }
+fn told(b: &[u8], edition: usize) -> Result<Told, Refusal>
+    ensures { result ≡ (answer_of edition b.now).opening }
 {
-    let len = b.len();
-    let p = container::part(b, edition, b"PSV0");
-    let offset = p.offset;
-    let v = p.verdict;
-    if let Verdict::Refused(n, place) = v {
-        return Answer {
-            verdict: Verdict::Refused(n, place),
-            file_edition: 0,
-            stage: Field::Unset,
-            len,
-        };
-    }
-    let file_edition = constants::edition_of(wire::u32_at(b, offset + 8) as usize);
-    let stage = stage_shown(wire::byte_at(b, offset + 36), edition, file_edition);
-    Answer {
-        verdict: Verdict::Accepted,
+    let p = container::part(b, edition, b"PSV0")?;
+    let file_edition = constants::edition_of(wire::u32_at(b, p.offset + 8) as usize);
+    let stage = stage_shown(wire::byte_at(b, p.offset + 36), edition, file_edition);
+    Ok(Told {
         file_edition,
         stage,
-        len,
-    }
+    })
 }
 
 fn count_refused(mut f: Figures, n: u8) -> Figures
     requires { n < 28 }
     ensures { result ≡ one_refused f n }
 {
-    f.opened = sum(f.opened, 1);
-    f.refused = sum(f.refused, 1);
-    let i = n as usize;
-    f.refusals[i] = sum(f.refusals[i], 1);
+    let i = usize::from(n);
+    f.opened = f.opened.saturating_add(1);
+    f.refused = f.refused.saturating_add(1);
+    f.refusals[i] = f.refusals[i].saturating_add(1);
     f
 }
 
-fn count_accepted(mut f: Figures, edition: usize, stage: Field, len: usize) -> Figures
-    requires { (edition < 4) × StageFits stage }
-    ensures { result ≡ one_accepted f edition stage len }
+fn count_accepted(mut f: Figures, t: Told, len: usize) -> Figures
+    requires { InRange t }
+    ensures { result ≡ one_accepted f t len }
 {
-    f.bytes = sum_bytes(f.bytes, len as u64);
-    f.opened = sum(f.opened, 1);
-    f.accepted = sum(f.accepted, 1);
-    f.editions[edition] = sum(f.editions[edition], 1);
-    match stage {
-        Field::Unset => {
-            f.unset = sum(f.unset, 1);
-            return f;
-        }
-        Field::Set(n) => {
+    f.bytes = f.bytes.saturating_add(len as u64);
+    f.opened = f.opened.saturating_add(1);
+    f.accepted = f.accepted.saturating_add(1);
+    f.editions[t.file_edition] = f.editions[t.file_edition].saturating_add(1);
+    match t.stage {
+        Some(n) => {
             let i = n as usize;
-            f.stages[i] = sum(f.stages[i], 1);
-            return f;
+            f.stages[i] = f.stages[i].saturating_add(1);
         }
+        None => f.unset = f.unset.saturating_add(1),
     }
+    f
 }
 
-fn count(f: Figures, a: Answer) -> Figures
-    requires { InRange a }
-    ensures { result ≡ summed f (figures_of f.edition (a ∷ [])) }
-{
-    let v = a.verdict;
-    let stage = a.stage;
-    match v {
-        Verdict::Refused(n, _) => count_refused(f, n),
-        Verdict::Accepted => count_accepted(f, a.file_edition, stage, a.len),
-    }
-}
-
-// One container more, opened at the figures' edition. With 65,535 opened it is answered as full and nothing changes.
-pub fn add(f: Figures, b: &[u8]) -> AddAnswer
+// One container more, opened at the figures' edition. With 65,535 opened the figures are full.
+pub fn add(f: Figures, b: &[u8]) -> Result<Addition, Full>
     ensures { result ≡ added f b.now }
 {
     if 65535 <= f.opened {
-        return AddAnswer {
-            answer: Addition::Full,
-            figures: f,
-        };
+        return Err(Full);
     }
-    let a = answer(b, f.edition);
-    let v = a.verdict;
-    AddAnswer {
-        answer: Addition::Counted(v),
-        figures: count(f, a),
+    match told(b, f.edition) {
+        Ok(t) => Ok(Addition {
+            opening: Ok(()),
+            figures: count_accepted(f, t, b.len()),
+        }),
+        Err(r) => Ok(Addition {
+            opening: Err(r),
+            figures: count_refused(f, r.number),
+        }),
     }
 }
 
 // ---- two figures joined
 
-// Adds counts to others, one by one.
-fn add_counts(a: &mut [u16], b: &[u16])
-    requires { length a.old ≡ length b.now }
-    ensures { a.new ≡ sums a.old b.now }
+// Two lists of counts in one, count by count.
+fn sum_counts<const N: usize>(mut a: [u16; N], b: [u16; N]) -> [u16; N]
+    ensures { result ≡ sums a.entry b.entry }
 {
-    let mut i = 0;
-    while i < a.len() {
-        a[i] = sum(a[i], b[i]);
-        i += 1;
+    for i in 0..N {
+        a[i] = a[i].saturating_add(b[i]);
     }
+    a
 }
 
 fn sum_all(f: Figures, g: Figures) -> Figures
     ensures { result ≡ summed f g }
 {
-    let mut refusals = f.refusals;
-    let more_refusals = g.refusals;
-    add_counts(&mut refusals, &more_refusals);
-    let mut editions = f.editions;
-    let more_editions = g.editions;
-    add_counts(&mut editions, &more_editions);
-    let mut stages = f.stages;
-    let more_stages = g.stages;
-    add_counts(&mut stages, &more_stages);
     Figures {
         edition: f.edition,
-        bytes: sum_bytes(f.bytes, g.bytes),
-        opened: sum(f.opened, g.opened),
-        accepted: sum(f.accepted, g.accepted),
-        refused: sum(f.refused, g.refused),
-        refusals,
-        editions,
-        stages,
-        unset: sum(f.unset, g.unset),
+        bytes: f.bytes.saturating_add(g.bytes),
+        opened: f.opened.saturating_add(g.opened),
+        accepted: f.accepted.saturating_add(g.accepted),
+        refused: f.refused.saturating_add(g.refused),
+        refusals: sum_counts(f.refusals, g.refusals),
+        editions: sum_counts(f.editions, g.editions),
+        stages: sum_counts(f.stages, g.stages),
+        unset: f.unset.saturating_add(g.unset),
     }
 }
 
-// The figures of one list of files after the other. Figures of two editions don't join, and where there is no room the answer is full: both
-// give the first back as it was.
-pub fn join(f: Figures, g: Figures) -> JoinAnswer
+// The figures of one list of files after the other, where they are of one edition and there is room.
+pub fn join(f: Figures, g: Figures) -> Result<Figures, JoinError>
     ensures { result ≡ joined f g }
 {
     if f.edition != g.edition {
-        return JoinAnswer {
-            answer: Joining::OtherEdition,
-            figures: f,
-        };
+        return Err(JoinError::OtherEdition);
     }
-    if 65535 < f.opened as u32 + g.opened as u32 {
-        return JoinAnswer {
-            answer: Joining::Full,
-            figures: f,
-        };
+    if 65535 < u32::from(f.opened) + u32::from(g.opened) {
+        return Err(JoinError::Full);
     }
-    JoinAnswer {
-        answer: Joining::Joined,
-        figures: sum_all(f, g),
-    }
+    Ok(sum_all(f, g))
 }

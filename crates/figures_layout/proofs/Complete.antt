@@ -1,8 +1,9 @@
 -- No opening is missed: the counts by refusal number sum to the refused, those by edition to the accepted, and so do those by stage or unset.
 -- Assumes nothing.
+use Rattle.std.specs.Prelude.{Option, Some, None, Result, Ok, Err}
 use Prim.Native.Nat.{ℕ, zero, suc, ◌+◌, ◌<◌, ◌≤◌}
 use mathlib.Core.Path.{◌≡◌, refl, sym, ◌∙◌}
-use mathlib.Core.Bool.{Bool, true, false, ◌&&◌}
+use mathlib.Core.Bool.{Bool, true, false}
 use mathlib.Core.List.{List, [], ◌∷◌}
 use mathlib.Core.Logic.{⊎_elim}
 use native.Mathlib.Nat.{le_of_suc-le-suc, eq-or-lt_of_le}
@@ -12,13 +13,11 @@ use lib.ListN.{length, get_or}
 use borrow.Author.Tests.{eq-eqb, ne_eqb}
 use Rattle.wire.specs.Choice.{choose}
 use Rattle.wire.specs.Sum.{sum_below, count_below}
-use Rattle.wire.specs.declared.Verdict.{Verdict}
-use Rattle.wire.specs.declared.Verdict.TheVariants.{Accepted, Refused}
+use Rattle.wire.specs.declared.Refusal.{Refusal}
 use Rattle.wire.proofs.Sums.{sum_agree, count_hit, count_miss, count_none}
-use Rattle.psv0_layout.specs.declared.Field.{Field}
-use Rattle.psv0_layout.specs.declared.Field.TheVariants.{Set, Unset}
 use Rattle.figures_layout.specs.declared.Answer.{Answer}
-use Rattle.figures_layout.specs.Kinds.{answer_of, history, accepts, refuses, refuses_with, is_stage, is_unset, is_accepted, is_refused, refused_with, of_edition, of_stage, of_no_stage, tally}
+use Rattle.figures_layout.specs.declared.Told.{Told}
+use Rattle.figures_layout.specs.Kinds.{answer_of, history, when_told, refuses, refuses_with, is_stage, is_unset, is_accepted, is_refused, refused_with, of_edition, of_stage, of_no_stage, tally}
 use Rattle.figures_layout.specs.Figures.{counted}
 use Rattle.figures_layout.proofs.Counts.{counts}
 use Rattle.figures_layout.proofs.Ranges.{above_3, number_in, edition_in, stage_in}
@@ -50,9 +49,9 @@ count_one m (suc n) h =
     omega arith)
     (eq-or-lt_of_le h)
 
-abbrev has_stage : Field → Bool
-has_stage (Set n) = true
-has_stage Unset = false
+abbrev has_stage : Option ℕ → Bool
+has_stage (Some n) = true
+has_stage None = false
 
 -- ---- where each opening has one of the kinds p 0, p 1, .. below n or is not of the kind q, the tallies sum to that of q
 sum_tallies : (k : ℕ) (p : ℕ → Answer → Bool) (q : Answer → Bool) (n : ℕ)
@@ -69,37 +68,46 @@ sum_tallies k p q n h (b ∷ l) =
 -- ---- one opening
 module _ (k : ℕ) (b : List ℕ) where
   in_refusals : count_below (λ n. refused_with n (answer_of k b)) 28 ≡ choose (is_refused (answer_of k b)) 1 0
-  in_refusals = go (answer_of k b).verdict refl
+  in_refusals = go (answer_of k b).opening refl
     where
-      go : (v : Verdict) → (answer_of k b).verdict ≡ v → count_below (λ n. refuses_with n v) 28 ≡ choose (refuses v) 1 0
-      go Accepted e = count_none (λ n. false) 28 (λ n l. refl)
-      go (Refused n p) e = count_one n 28 (let h = (number_in k b e).1 in omega arith)
+      go : (o : Result Told Refusal) → (answer_of k b).opening ≡ o → count_below (λ n. refuses_with n o) 28 ≡ choose (refuses o) 1 0
+      go (Ok t) e = count_none (λ n. false) 28 (λ n l. refl)
+      go (Err r) e = count_one r.number 28 (let h = (number_in k b e).1 in omega arith)
 
   in_editions : count_below (λ e. of_edition e (answer_of k b)) 4 ≡ choose (is_accepted (answer_of k b)) 1 0
-  in_editions = go (answer_of k b).verdict
+  in_editions = go (answer_of k b).opening refl
     where
-      go : (v : Verdict) → count_below (λ e. accepts v && eqb (answer_of k b).file_edition e) 4 ≡ choose (accepts v) 1 0
-      go Accepted = count_one (answer_of k b).file_edition 4 (let h = edition_in k b in omega arith)
-      go (Refused n p) = count_none (λ n. false) 4 (λ n l. refl)
+      go : (o : Result Told Refusal) → (answer_of k b).opening ≡ o
+          → count_below (λ e. when_told (λ t. eqb t.file_edition e) o) 4 ≡ choose (when_told (λ t. true) o) 1 0
+      go (Ok t) e = count_one t.file_edition 4 (let h = edition_in k b e in omega arith)
+      go (Err r) e = count_none (λ n. false) 4 (λ n l. refl)
 
   -- accepted, with a stage
-  in_stages : count_below (λ t. of_stage t (answer_of k b)) 16 ≡ choose (is_accepted (answer_of k b) && has_stage (answer_of k b).stage) 1 0
-  in_stages = go (answer_of k b).verdict (answer_of k b).stage refl
+  in_stages : count_below (λ n. of_stage n (answer_of k b)) 16 ≡ choose (when_told (λ t. has_stage t.stage) (answer_of k b).opening) 1 0
+  in_stages = go (answer_of k b).opening refl
     where
-      go : (v : Verdict) (s : Field) → (answer_of k b).stage ≡ s → count_below (λ t. accepts v && is_stage t s) 16 ≡ choose (accepts v && has_stage s) 1 0
-      go Accepted (Set n) e = count_one n 16 (let h = stage_in k b e in omega arith)
-      go Accepted Unset e = count_none (λ n. false) 16 (λ n l. refl)
-      go (Refused n p) s e = count_none (λ n. false) 16 (λ n l. refl)
+      told : (t : Told) → (answer_of k b).opening ≡ Ok t → (s : Option ℕ) → t.stage ≡ s → count_below (λ n. is_stage n s) 16 ≡ choose (has_stage s) 1 0
+      told t e (Some n) q = count_one n 16 (let h = stage_in k b e q in omega arith)
+      told t e None q = count_none (λ n. false) 16 (λ n l. refl)
 
-stage_or_unset : (v : Verdict) (s : Field) → choose (accepts v && has_stage s) 1 0 + choose (accepts v && is_unset s) 1 0 ≡ choose (accepts v) 1 0
-stage_or_unset Accepted (Set n) = refl
-stage_or_unset Accepted Unset = refl
-stage_or_unset (Refused n p) s = refl
+      go : (o : Result Told Refusal) → (answer_of k b).opening ≡ o
+          → count_below (λ n. when_told (λ t. is_stage n t.stage) o) 16 ≡ choose (when_told (λ t. has_stage t.stage) o) 1 0
+      go (Ok t) e = told t e t.stage refl
+      go (Err r) e = count_none (λ n. false) 16 (λ n l. refl)
 
-staged_or_unset : (h : List Answer) → tally (λ a. is_accepted a && has_stage a.stage) h + tally of_no_stage h ≡ tally is_accepted h
+set_or_unset : (s : Option ℕ) → choose (has_stage s) 1 0 + choose (is_unset s) 1 0 ≡ 1
+set_or_unset (Some n) = refl
+set_or_unset None = refl
+
+stage_or_unset : (o : Result Told Refusal)
+    → choose (when_told (λ t. has_stage t.stage) o) 1 0 + choose (when_told (λ t. is_unset t.stage) o) 1 0 ≡ choose (when_told (λ t. true) o) 1 0
+stage_or_unset (Ok t) = set_or_unset t.stage
+stage_or_unset (Err r) = refl
+
+staged_or_unset : (h : List Answer) → tally (λ a. when_told (λ t. has_stage t.stage) a.opening) h + tally of_no_stage h ≡ tally is_accepted h
 unfolding tally
 staged_or_unset [] = refl
-staged_or_unset (a ∷ h) = let r = staged_or_unset h in let s = stage_or_unset a.verdict a.stage in omega arith
+staged_or_unset (a ∷ h) = let r = staged_or_unset h in let s = stage_or_unset a.opening in omega arith
 
 -- ---- the figures of up to 65,535 files
 module _ (k : ℕ) (files : List (List ℕ)) (few : length files ≤ 65535) where
@@ -117,7 +125,7 @@ module _ (k : ℕ) (files : List (List ℕ)) (few : length files ≤ 65535) wher
   stages_complete =
       let c = counts k files few in
       let s = sum_agree _ _ 16 c.stages in
-      let t = sum_tallies k of_stage (λ a. is_accepted a && has_stage a.stage) 16 (in_stages k) files in
+      let t = sum_tallies k of_stage (λ a. when_told (λ t. has_stage t.stage) a.opening) 16 (in_stages k) files in
       let u = staged_or_unset (history k files) in
       let v = c.unset in
       let w = c.accepted in

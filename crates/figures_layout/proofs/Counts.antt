@@ -7,12 +7,13 @@ use mathlib.Core.List.{List, [], ◌∷◌, ◌++◌, Permᴰ}
 use native.Mathlib.Omega.{arith}
 use lib.Dec.{eqb}
 use lib.ListN.{length, get_or, length-append}
+use Rattle.std.specs.Prelude.{Ok, Err}
 use borrow.Author.Tests.{lt-leb, eq-eqb, ne_eqb}
 use Rattle.figures_layout.specs.declared.Answer.{Answer}
 use Rattle.figures_layout.specs.declared.Figures.{Figures}
-use Rattle.figures_layout.specs.declared.Joining.TheVariants.{Joined, OtherEdition, Full as NoRoom}
+use Rattle.figures_layout.specs.declared.JoinError.TheVariants.{OtherEdition, Full as NoRoom}
 use Rattle.figures_layout.specs.Kinds.{history, is_accepted, is_refused, refused_with, of_edition, of_stage, of_no_stage, tally, total}
-use Rattle.figures_layout.specs.Figures.{most_bytes, figures_of, fits, joined, counted}
+use Rattle.figures_layout.specs.Figures.{most_bytes, figures_of, fits, joined, counted, after_join}
 use Rattle.figures_layout.proofs.Sums.{table_same, table_at}
 use Rattle.figures_layout.proofs.Tallies.{history_append, history_length, all_tallied, tally_order, total_order, length_order, history_order}
 use Rattle.figures_layout.proofs.Histories.{room_for, summed_one, counted_is}
@@ -85,7 +86,7 @@ same_edition k h g = eq-eqb k k refl
 
 module _ (k : ℕ) (l m : List (List ℕ)) where
   -- "to give the figures of the one list after the other where that has at most 65,535 files"
-  pub joined_lists : length (l ++ m) ≤ 65535 → joined (counted k l) (counted k m) ≡ record { answer = Joined; figures = counted k (l ++ m) }
+  pub joined_lists : length (l ++ m) ≤ 65535 → joined (counted k l) (counted k m) ≡ Ok (counted k (l ++ m))
   unfolding joined
   joined_lists n =
       let s = length-append l m in
@@ -95,11 +96,9 @@ module _ (k : ℕ) (l m : List (List ℕ)) where
       let t = summed_one k (history k l) (history k m) q in
       rw (counted_is k l (omega arith), counted_is k m (omega arith), counted_is k (l ++ m) n, a, same_edition k (history k l) (history k m), r, t)
 
-  -- "answered as full, the first unchanged, where not"
-  pub joined_full : length l ≤ 65535 → length m ≤ 65535 → 65535 < length (l ++ m)
-      → joined (counted k l) (counted k m) ≡ record { answer = NoRoom; figures = counted k l }
+  no_room : length l ≤ 65535 → length m ≤ 65535 → 65535 < length (l ++ m) → joined (counted k l) (counted k m) ≡ Err NoRoom
   unfolding joined fits figures_of
-  joined_full a b n =
+  no_room a b n =
       let s = length-append l m in
       let e : eqb k k ≡ true = eq-eqb k k refl in
       let p = history_length k l in
@@ -107,7 +106,12 @@ module _ (k : ℕ) (l m : List (List ℕ)) where
       let r = lt-leb (length (history k l) + length (history k m)) 65535 (omega arith) in
       rw (counted_is k l a, counted_is k m b) (rw (e, r))
 
+  -- "answered as full, the first unchanged, where not"
+  pub joined_full : length l ≤ 65535 → length m ≤ 65535 → 65535 < length (l ++ m)
+      → (joined (counted k l) (counted k m) ≡ Err NoRoom) × (after_join (counted k l) (joined (counted k l) (counted k m)) ≡ counted k l)
+  joined_full a b n = let e = no_room a b n in (e, rw e)
+
 -- "Figures of two editions don't join: that is an answer of its own, and changes nothing", of any figures
-pub joined_other : (f g : Figures) → (f.edition ≡ g.edition → ⊥) → joined f g ≡ record { answer = OtherEdition; figures = f }
+pub joined_other : (f g : Figures) → (f.edition ≡ g.edition → ⊥) → (joined f g ≡ Err OtherEdition) × (after_join f (joined f g) ≡ f)
 unfolding joined
-joined_other f g h = rw (ne_eqb f.edition g.edition h)
+joined_other f g h = rw (ne_eqb f.edition g.edition h) (refl, refl)

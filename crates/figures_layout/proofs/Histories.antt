@@ -8,11 +8,12 @@ use native.Mathlib.Omega.{arith}
 use lib.ListN.{length, length-append}
 use borrow.Author.Tests.{le-leb, lt-leb}
 use Rattle.container_layout.specs.Container.{container_judged}
-use Rattle.figures_layout.specs.declared.Addition.TheVariants.{Counted, Full}
+use Rattle.std.specs.Prelude.{Ok, Err}
+use Rattle.wire.specs.Verdict.{under}
 use Rattle.figures_layout.specs.declared.Answer.{Answer}
 use Rattle.figures_layout.specs.declared.Figures.{Figures}
 use Rattle.figures_layout.specs.Kinds.{answer_of, history, is_accepted, is_refused, refused_with, of_edition, of_stage, of_no_stage, tally, total}
-use Rattle.figures_layout.specs.Figures.{most, most_bytes, plus, sum_up_to, table, figures_of, sums, summed, fits, started, single, added, carried, counted}
+use Rattle.figures_layout.specs.Figures.{most, most_bytes, plus, sum_up_to, table, figures_of, sums, summed, fits, started, single, added, after, carried, counted}
 use Rattle.figures_layout.proofs.Sums.{sum_is, sum_most, table_sums}
 use Rattle.figures_layout.proofs.Tallies.{tally_append, total_append, history_length, tally_le}
 
@@ -54,7 +55,7 @@ module _ (e : ℕ) (h k : List Answer) (l : length (h ++ k) ≤ 65535) where
 module _ (k : ℕ) (h : List Answer) (b : List ℕ) where
   -- with fewer than 65,535 opened, one more is counted
   pub one_more : length h < 65535
-      → added (figures_of k h) b ≡ record { answer = Counted (container_judged k b); figures = figures_of k (h ++ (answer_of k b ∷ [])) }
+      → added (figures_of k h) b ≡ Ok (record { opening = under (container_judged k b) tt; figures = figures_of k (h ++ (answer_of k b ∷ [])) })
   unfolding added single figures_of
   one_more l =
       let n = length-append h (answer_of k b ∷ []) in
@@ -62,21 +63,24 @@ module _ (k : ℕ) (h : List Answer) (b : List ℕ) where
       let s : summed (figures_of k h) (figures_of k (answer_of k b ∷ [])) ≡ figures_of k (h ++ (answer_of k b ∷ [])) = summed_one k h (answer_of k b ∷ []) (omega arith) in
       rw (r, s)
 
-  -- "A container past 65,535 changes nothing and is answered as full"
-  pub past_most : 65535 ≤ length h → added (figures_of k h) b ≡ record { answer = Full; figures = figures_of k h }
+  no_more : 65535 ≤ length h → added (figures_of k h) b ≡ Err (record {})
   unfolding added single fits figures_of
-  past_most l = rw (lt-leb (length h + 1) 65535 (omega arith))
+  no_more l = rw (lt-leb (length h + 1) 65535 (omega arith))
 
--- the same of any figures, made up or not
-pub full_kept : (f : Figures) (b : List ℕ) → f.opened ≡ 65535 → added f b ≡ record { answer = Full; figures = f }
+  -- "A container past 65,535 changes nothing and is answered as full"
+  pub past_most : 65535 ≤ length h → (added (figures_of k h) b ≡ Err (record {})) × (after (figures_of k h) (added (figures_of k h) b) ≡ figures_of k h)
+  past_most l = let e = no_more l in (e, rw e)
+
+-- the same of any figures, made up or not: they stay as they were
+pub full_kept : (f : Figures) (b : List ℕ) → f.opened ≡ 65535 → (added f b ≡ Err (record {})) × (after f (added f b) ≡ f)
 unfolding added single fits figures_of
-full_kept f b e = rw e
+full_kept f b e = rw e (refl, refl)
 
 -- figures that are full stay so
 carried_full : (k : ℕ) (h : List Answer) (l : List (List ℕ)) → 65535 ≤ length h → carried (figures_of k h) l ≡ figures_of k h
 unfolding carried
 carried_full k h [] n = refl
-carried_full k h (b ∷ l) n = rw (past_most k h b n) (carried_full k h l n)
+carried_full k h (b ∷ l) n = rw ((past_most k h b n).0) (carried_full k h l n)
 
 carried_is : (k : ℕ) (h : List Answer) (l : List (List ℕ)) → length (h ++ history k l) ≤ 65535
     → carried (figures_of k h) l ≡ figures_of k (h ++ history k l)
@@ -90,7 +94,7 @@ carried_is k h (b ∷ l) n =
 carried_append : (f : Figures) (l m : List (List ℕ)) → carried f (l ++ m) ≡ carried (carried f l) m
 unfolding carried
 carried_append f [] m = refl
-carried_append f (b ∷ l) m = carried_append (added f b).figures l m
+carried_append f (b ∷ l) m = carried_append (after f (added f b)) l m
 
 module _ (k : ℕ) (l : List (List ℕ)) where
   -- the figures of up to 65,535 files are those of the history

@@ -7,10 +7,11 @@ use mathlib.Core.List.{List, [], ◌∷◌, ◌++◌, Permᴰ}
 use native.Mathlib.Omega.{arith}
 use lib.ListN.{length}
 use Rattle.wire.specs.Choice.{choose}
-use Rattle.wire.specs.declared.Verdict.{Verdict}
-use Rattle.wire.specs.declared.Verdict.TheVariants.{Accepted, Refused}
+use Rattle.std.specs.Prelude.{Result, Ok, Err}
+use Rattle.wire.specs.declared.Refusal.{Refusal}
+use Rattle.figures_layout.specs.declared.Told.{Told}
 use Rattle.figures_layout.specs.declared.Answer.{Answer}
-use Rattle.figures_layout.specs.Kinds.{answer_of, history, accepts, refuses, is_accepted, is_refused, accepted_length, tally, total}
+use Rattle.figures_layout.specs.Kinds.{answer_of, history, when_told, refuses, is_accepted, is_refused, accepted_length, tally, total}
 
 -- ---- one history after another
 pub tally_append : (p : Answer → Bool) (h k : List Answer) → tally p (h ++ k) ≡ tally p h + tally p k
@@ -43,14 +44,14 @@ unfolding tally
 tally_le p [] = omega arith
 tally_le p (a ∷ h) = let e = tally_le p h in let o = one_le (p a) in omega arith
 
-one_of : (v : Verdict) → choose (accepts v) 1 0 + choose (refuses v) 1 0 ≡ 1
-one_of Accepted = refl
-one_of (Refused n p) = refl
+one_of : (r : Result Told Refusal) → choose (when_told (λ t. true) r) 1 0 + choose (refuses r) 1 0 ≡ 1
+one_of (Ok t) = refl
+one_of (Err r) = refl
 
 pub all_tallied : (h : List Answer) → tally is_accepted h + tally is_refused h ≡ length h
 unfolding tally
 all_tallied [] = refl
-all_tallied (a ∷ h) = let q = all_tallied h in let o = one_of a.verdict in omega arith
+all_tallied (a ∷ h) = let q = all_tallied h in let o = one_of a.opening in omega arith
 
 -- ---- any order
 pub tally_order : (p : Answer → Bool) {h k : List Answer} → Permᴰ h k → tally p h ≡ tally p k

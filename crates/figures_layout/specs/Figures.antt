@@ -1,13 +1,14 @@
 -- The figures of a history, joined, and kept from container to container.
-use Rattle.std.specs.Prelude.{Bool, List, [], ◌∷◌, ℕ, zero, suc, ◌+◌, ◌-◌, min, leb, eqb, length}
+use Rattle.std.specs.Prelude.{Bool, List, [], ◌∷◌, ℕ, zero, suc, ◌+◌, ◌-◌, min, leb, eqb, length, Result, Ok, Err}
 use Rattle.wire.specs.Choice.{choose}
 use Rattle.container_layout.specs.Container.{container_judged}
-use Rattle.figures_layout.specs.declared.AddAnswer.{AddAnswer}
-use Rattle.figures_layout.specs.declared.Addition.TheVariants.{Counted, Full}
+use Rattle.wire.specs.Verdict.{under}
+use Rattle.figures_layout.specs.declared.Addition.{Addition}
 use Rattle.figures_layout.specs.declared.Answer.{Answer}
 use Rattle.figures_layout.specs.declared.Figures.{Figures}
-use Rattle.figures_layout.specs.declared.JoinAnswer.{JoinAnswer}
-use Rattle.figures_layout.specs.declared.Joining.TheVariants.{Joined, OtherEdition, Full as NoRoom}
+use Rattle.figures_layout.specs.declared.Full.{Full}
+use Rattle.figures_layout.specs.declared.JoinError.{JoinError}
+use Rattle.figures_layout.specs.declared.JoinError.TheVariants.{OtherEdition, Full as NoRoom}
 use Rattle.figures_layout.specs.Kinds.{answer_of, is_accepted, is_refused, refused_with, of_edition, of_stage, of_no_stage, tally, total}
 
 -- "a list of up to 65,535 containers"
@@ -71,14 +72,12 @@ summed f g =
 unfoldable pub fits : Figures → Figures → Bool
 fits f g = leb (f.opened + g.opened) most
 
--- two figures joined: those of two editions are not, and where there is no room the answer is full; both leave the first as it was
-unfoldable pub joined : Figures → Figures → JoinAnswer
+-- two figures joined: those of two editions are not, and where there is no room the answer is full
+unfoldable pub joined : Figures → Figures → Result Figures JoinError
 joined f g =
     choose (eqb f.edition g.edition)
-    (choose (fits f g)
-    (record { answer = Joined; figures = summed f g })
-    (record { answer = NoRoom; figures = f }))
-    (record { answer = OtherEdition; figures = f })
+    (choose (fits f g) (Ok (summed f g)) (Err NoRoom))
+    (Err OtherEdition)
 
 -- ---- from container to container
 -- "opened one by one at one edition, named at the start"
@@ -90,16 +89,26 @@ unfoldable pub single : Figures → List ℕ → Figures
 single f b = figures_of f.edition (answer_of f.edition b ∷ [])
 
 -- one container more. "A container past 65,535 changes nothing and is answered as full"
-unfoldable pub added : Figures → List ℕ → AddAnswer
+unfoldable pub added : Figures → List ℕ → Result Addition Full
 added f b =
     choose (fits f (single f b))
-    (record { answer = Counted (container_judged f.edition b); figures = summed f (single f b) })
-    (record { answer = Full; figures = f })
+    (Ok (record { opening = under (container_judged f.edition b) tt; figures = summed f (single f b) }))
+    (Err (record {}))
+
+-- the figures after an addition to f: f as it was where they are full
+abbrev pub after : Figures → Result Addition Full → Figures
+after f (Ok a) = a.figures
+after f (Err e) = f
+
+-- the figures f after others were joined to them: f as it was where the two don't join
+abbrev pub after_join : Figures → Result Figures JoinError → Figures
+after_join f (Ok g) = g
+after_join f (Err e) = f
 
 -- the figures f after some files, and those of a list of files from the start
 unfoldable pub carried : Figures → List (List ℕ) → Figures
 carried f [] = f
-carried f (b ∷ files) = carried (added f b).figures files
+carried f (b ∷ files) = carried (after f (added f b)) files
 
 unfoldable pub counted : ℕ → List (List ℕ) → Figures
 counted k files = carried (started k) files

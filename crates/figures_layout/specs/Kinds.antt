@@ -1,24 +1,23 @@
 -- What an opening tells the figures, the kinds of such answers, and how many of a history are of a kind.
-use Rattle.std.specs.Prelude.{Bool, true, false, ◌&&◌, List, [], ◌∷◌, ℕ, ◌+◌, eqb, length}
+use Rattle.std.specs.Prelude.{Bool, true, false, List, [], ◌∷◌, ℕ, ◌+◌, eqb, length, Option, Some, None, Result, Ok, Err}
 use Rattle.constants.specs.Edition.{file_edition_of}
 use Rattle.wire.specs.Choice.{choose}
 use Rattle.wire.specs.Number.{u32_at}
-use Rattle.wire.specs.declared.Verdict.{Verdict}
-use Rattle.wire.specs.declared.Verdict.TheVariants.{Accepted, Refused}
-use Rattle.psv0_layout.specs.Answers.{field_of, number_beside}
+use Rattle.wire.specs.Verdict.{under}
+use Rattle.wire.specs.declared.Refusal.{Refusal}
+use Rattle.psv0_layout.specs.Answers.{field_of}
 use Rattle.psv0_layout.specs.Shown.{stage_number}
-use Rattle.psv0_layout.specs.declared.Field.{Field}
-use Rattle.psv0_layout.specs.declared.Field.TheVariants.{Set, Unset}
 use Rattle.container_layout.specs.Container.{psv_of, container_judged, container_answered}
 use Rattle.figures_layout.specs.declared.Answer.{Answer}
+use Rattle.figures_layout.specs.declared.Told.{Told}
 
--- what opening b at edition k tells: the verdict, the "edition of the file", the stage that the reading shows, and the length
+-- what opening b at edition k tells: the "edition of the file" and the stage that the reading shows, or the refusal, and the length
 unfoldable pub answer_of : ℕ → List ℕ → Answer
 answer_of k b =
     record {
-      verdict = container_judged k b;
-      file_edition = number_beside (container_judged k b) (file_edition_of (u32_at (psv_of b) 0));
-      stage = field_of (container_answered k b stage_number);
+      opening =
+          under (container_judged k b)
+          (record { file_edition = file_edition_of (u32_at (psv_of b) 0); stage = field_of (container_answered k b stage_number) });
       len = length b;
     }
 
@@ -28,49 +27,50 @@ history k [] = []
 history k (b ∷ files) = answer_of k b ∷ history k files
 
 -- ---- kinds of answers
-abbrev pub accepts : Verdict → Bool
-accepts Accepted = true
-accepts (Refused n p) = false
+-- an answer that is accepted and of which a test holds
+abbrev pub when_told : (Told → Bool) → Result Told Refusal → Bool
+when_told p (Ok t) = p t
+when_told p (Err r) = false
 
-abbrev pub refuses : Verdict → Bool
-refuses Accepted = false
-refuses (Refused n p) = true
+abbrev pub refuses : Result Told Refusal → Bool
+refuses (Ok t) = false
+refuses (Err r) = true
 
-abbrev pub refuses_with : ℕ → Verdict → Bool
-refuses_with n Accepted = false
-refuses_with n (Refused m p) = eqb m n
+abbrev pub refuses_with : ℕ → Result Told Refusal → Bool
+refuses_with n (Ok t) = false
+refuses_with n (Err r) = eqb r.number n
 
-abbrev pub is_stage : ℕ → Field → Bool
-is_stage t (Set s) = eqb s t
-is_stage t Unset = false
+abbrev pub is_stage : ℕ → Option ℕ → Bool
+is_stage t (Some s) = eqb s t
+is_stage t None = false
 
-abbrev pub is_unset : Field → Bool
-is_unset (Set s) = false
-is_unset Unset = true
+abbrev pub is_unset : Option ℕ → Bool
+is_unset (Some s) = false
+is_unset None = true
 
 abbrev pub is_accepted : Answer → Bool
-is_accepted a = accepts a.verdict
+is_accepted a = when_told (λ t. true) a.opening
 
 abbrev pub is_refused : Answer → Bool
-is_refused a = refuses a.verdict
+is_refused a = refuses a.opening
 
 -- "by refusal number"
 abbrev pub refused_with : ℕ → Answer → Bool
-refused_with n a = refuses_with n a.verdict
+refused_with n a = refuses_with n a.opening
 
 -- "by edition of the file and by stage (or unset) for accepted ones"
 abbrev pub of_edition : ℕ → Answer → Bool
-of_edition e a = accepts a.verdict && eqb a.file_edition e
+of_edition e a = when_told (λ t. eqb t.file_edition e) a.opening
 
 abbrev pub of_stage : ℕ → Answer → Bool
-of_stage t a = accepts a.verdict && is_stage t a.stage
+of_stage n a = when_told (λ t. is_stage n t.stage) a.opening
 
 abbrev pub of_no_stage : Answer → Bool
-of_no_stage a = accepts a.verdict && is_unset a.stage
+of_no_stage a = when_told (λ t. is_unset t.stage) a.opening
 
 -- the length that an answer adds to "the sum of the accepted lengths"
 abbrev pub accepted_length : Answer → ℕ
-accepted_length a = number_beside a.verdict a.len
+accepted_length a = choose (is_accepted a) a.len 0
 
 -- ---- over a history
 -- "the number of openings in the history with that answer"

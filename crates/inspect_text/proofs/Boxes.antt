@@ -21,8 +21,7 @@ use Rattle.psv0_layout.specs.Judged.{head_judged, fields_judged, body_fits, elem
 use Rattle.psv0_layout.specs.Layout.{default_edition, counted, after_counted, counted_fits, records, after_records, records_fit, rows, sections, body_of, seen}
 use Rattle.psv0_layout.specs.Reference.{has_zero, until_zero, string_ends, string_good, string_at, index_good, array_at}
 use Rattle.wire.specs.Number.{u16_at, u32_at}
-use Rattle.wire.specs.Verdict.{◌then◌, check, when, from, each}
-use Rattle.wire.specs.declared.Verdict.TheVariants.{Refused}
+use Rattle.wire.specs.Verdict.{◌then◌, check, when, from, each, Refused}
 
 -- "For M the program prints three lines"; of 31 bytes "`refused 1 0`"; of C with name offset 8, which edition 3 refuses, what it prints of C
 abbrev given : List (List ℕ)

@@ -2,130 +2,109 @@
 #![tactic(auto)]
 
 ghost use Rattle.std.specs.Prelude.{◌≡◌, ◌++◌, ◌+◌, ◌≤◌, length};
-ghost use Rattle.io.specs.Counts.{IsPrefixLen};
-ghost use Rattle.wire.specs.Number.{placed};
+ghost use Rattle.arrayvec.specs.ArrayVec.{array_vec_len};
 ghost use Rattle.lines.specs.Number.{decimal};
-ghost use Rattle.lines.specs.Line.{feed, numbers, accepted_line, refused_line, name_text, mark, part_line, line_of};
+ghost use Rattle.lines.specs.Line.{feed, numbers, accepted_line, refused_line, name_text, part_line};
 ghost use Rattle.lines.specs.Line.{printable as Line·printable};
 
-// A line: its bytes, zeros after them, and its length.
-#[derive(Clone, Copy)]
-pub struct Line {
-    pub bytes: [u8; 64],
-    pub len: usize,
+use arrayvec::ArrayVec;
+use wire::Refusal;
+
+// The bytes of a line.
+pub type Line = ArrayVec<u8, 64>;
+
+// Puts bytes after a text that has room for them.
+fn put(text: &mut Line, s: &[u8])
+    requires { array_vec_len text.old + length s.now ≤ 64 }
+    ensures { text.new.items ≡ text.old.items ++ s.now }
+{
+    text.try_extend_from_slice(s).unwrap();
 }
 
-// Puts a number's decimal digits at a place, and answers the place after them.
-fn put_number(out: &mut [u8], at: usize, n: usize) -> usize
-    requires { at + 20 ≤ length out.old }
-    ensures out_after { out.new ≡ placed out.old at (decimal n) }
-    ensures value { result ≡ at + length (decimal n) }
+// Puts a number's decimal digits.
+fn put_number(line: &mut Line, n: usize)
+    requires { array_vec_len line.old + 20 ≤ 64 }
+    ensures line_after { line.new.items ≡ line.old.items ++ decimal n }
     ensures n_len_bound { length (decimal n) ≤ 20 }
 {
-    let mut digits = [0u8; 20];
+    let mut digits = [0; 20];
     let k = io::decimal(n as u64, &mut digits);
-    wire::put(out, at, &digits[..k]);
-    at + k
+    put(line, &digits[..k]);
 }
 
-// The same of two numbers, with a space between them.
-fn put_numbers(out: &mut [u8], at: usize, m: usize, n: usize) -> usize
-    requires { at + 41 ≤ length out.old }
-    ensures out_after { out.new ≡ placed out.old at (numbers m n) }
-    ensures value { result ≡ at + length (numbers m n) }
+// Puts two numbers, with a space between them.
+#[tactic(auto, unfolding(crate::specs::Line::numbers))]
+fn put_numbers(line: &mut Line, m: usize, n: usize)
+    requires { array_vec_len line.old + 41 ≤ 64 }
+    ensures line_after { line.new.items ≡ line.old.items ++ numbers m n }
     ensures n_len_bound { length (numbers m n) ≤ 41 }
 {
-    let end = put_number(out, at, m);
-    wire::put(out, end, b" ");
-    put_number(out, end + 1, n)
+    put_number(line, m);
+    put(line, b" ");
+    put_number(line, n);
 }
 
 // A word, two numbers and a line feed.
 fn told(word: &[u8], m: usize, n: usize) -> Line
     requires { length word.now ≤ 22 }
-    ensures value { result ≡ line_of ((word.now ++ numbers m n) ++ feed) }
-    ensures len_bound { result.len ≤ 64 }
-    ensures prefix_len { IsPrefixLen result.len result.bytes }
+    ensures { result.items ≡ (word.now ++ numbers m n) ++ feed }
 {
-    let mut bytes = [0u8; 64];
-    wire::put(&mut bytes, 0, word);
-    let end = put_numbers(&mut bytes, word.len(), m, n);
-    wire::put(&mut bytes, end, b"\n");
-    Line {
-        bytes,
-        len: end + 1,
-    }
+    let mut line = ArrayVec::new();
+    put(&mut line, word);
+    put_numbers(&mut line, m, n);
+    put(&mut line, b"\n");
+    line
 }
 
 // `accepted`, the file's edition and the number of parts.
+#[tactic(auto, unfolding(crate::specs::Line::accepted_line))]
 pub fn accepted(edition: usize, parts: usize) -> Line
-    ensures value { result ≡ line_of (accepted_line edition parts) }
-    ensures len_bound { result.len ≤ 64 }
-    ensures prefix_len { IsPrefixLen result.len result.bytes }
+    ensures { result.items ≡ accepted_line edition parts }
 {
     told(b"accepted ", edition, parts)
 }
 
 // `refused`, the number and the place.
-pub fn refused(n: u8, place: usize) -> Line
-    ensures value { result ≡ line_of (refused_line n place) }
-    ensures len_bound { result.len ≤ 64 }
-    ensures prefix_len { IsPrefixLen result.len result.bytes }
+#[tactic(auto, unfolding(crate::specs::Line::refused_line))]
+pub fn refused(r: Refusal) -> Line
+    ensures { result.items ≡ refused_line r.number r.place }
 {
-    told(b"refused ", n as usize, place)
+    told(b"refused ", usize::from(r.number), r.place)
 }
 
 // A name's byte, or `?` where it is outside 33 to 126.
-fn printable(c: u32) -> u8
-    requires { c ≤ 255 }
+#[tactic(auto, unfolding(crate::specs::Line::printable))]
+fn printable(c: u8) -> u8
     ensures { result ≡ Line·printable c }
 {
-    if 33 <= c {
-        if c <= 126 {
-            return c as u8;
-        }
+    match c {
+        33..=126 => c,
+        _ => b'?',
     }
-    b'?'
 }
 
 // A name, given as its number: the four bytes, least first.
+#[tactic(auto, unfolding(crate::specs::Line::name_text))]
 fn name(x: u32) -> [u8; 4]
     ensures { result ≡ name_text x }
 {
-    [
-        printable(x % 256),
-        printable(x / 256 % 256),
-        printable(x / 65536 % 256),
-        printable(x / 16777216 % 256),
-    ]
-}
-
-// Puts whether a name is known at a place, to the end of the line, and answers the place after it.
-fn put_mark(out: &mut [u8], at: usize, x: u32) -> usize
-    requires { at + 9 ≤ length out.old }
-    ensures out_after { out.new ≡ placed out.old at (mark x) }
-    ensures value { result ≡ at + length (mark x) }
-    ensures x_len_bound { length (mark x) ≤ 9 }
-{
-    if constants::known_name(x) {
-        wire::put(out, at, b" known\n");
-        return at + 7;
-    }
-    wire::put(out, at, b" unknown\n");
-    at + 9
+    let [a, b, c, d] = x.to_le_bytes();
+    [printable(a), printable(b), printable(c), printable(d)]
 }
 
 // A part: its name, where its header starts, its data size, and whether the name is known.
+#[tactic(auto, unfolding(crate::specs::Line::part_line, crate::specs::Line::mark))]
 pub fn part(x: u32, offset: u32, size: u32) -> Line
-    ensures value { result ≡ line_of (part_line x offset size) }
-    ensures len_bound { result.len ≤ 64 }
-    ensures prefix_len { IsPrefixLen result.len result.bytes }
+    ensures { result.items ≡ part_line x offset size }
 {
-    let mut bytes = [0u8; 64];
-    let four = name(x);
-    wire::put(&mut bytes, 0, &four);
-    wire::put(&mut bytes, 4, b" ");
-    let end = put_numbers(&mut bytes, 5, offset as usize, size as usize);
-    let len = put_mark(&mut bytes, end, x);
-    Line { bytes, len }
+    let mut line = ArrayVec::new();
+    put(&mut line, &name(x));
+    put(&mut line, b" ");
+    put_numbers(&mut line, offset as usize, size as usize);
+    if constants::known_name(x) {
+        put(&mut line, b" known\n");
+    } else {
+        put(&mut line, b" unknown\n");
+    }
+    line
 }

@@ -13,8 +13,7 @@ use lib.Seq.{length-take-le}
 use borrow.Author.Tests.{ltb-false, leb-true, eqb-true, eqb-false, not-true, le-ltb, le-leb, eq-eqb, ne_eqb}
 use Rattle.wire.specs.Number.{u16_at, u32_at}
 use Rattle.wire.specs.Search.{first}
-use Rattle.wire.specs.Verdict.{◌then◌, check, each}
-use Rattle.wire.specs.declared.Verdict.TheVariants.{Accepted, Refused}
+use Rattle.wire.specs.Verdict.{◌then◌, check, each, Accepted, Refused}
 use Rattle.wire.proofs.Choices.{both}
 use Rattle.wire.proofs.Searches.{first_below, first_none}
 use Rattle.wire.proofs.Verdicts.{then_accepted, accepted_then, check_accepted, check_then, checked, each_accepted, each_all}

@@ -6,7 +6,7 @@ use mathlib.Core.List.{List}
 use native.Mathlib.Omega.{arith}
 use lib.ListN.{length}
 use Rattle.wire.specs.Sum.{sum_below}
-use Rattle.wire.specs.declared.Verdict.TheVariants.{Accepted}
+use Rattle.wire.specs.Verdict.{Accepted}
 use Rattle.part_table_layout.specs.Table.{count_of, size_at, end_at, earliest, gap_at, table_judged, after_parts, accounted}
 use Rattle.part_table_layout.proofs.Accepted.{Fits, accepted_told}
 

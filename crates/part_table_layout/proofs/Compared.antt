@@ -8,9 +8,7 @@ use mathlib.Core.Logic.{◌⊎◌, inl, inr}
 use native.Mathlib.Omega.{arith}
 use Rattle.wire.specs.Search.{first}
 use Rattle.wire.specs.Sum.{sum_below}
-use Rattle.wire.specs.Verdict.{◌then◌, check, each}
-use Rattle.wire.specs.declared.Verdict.{Verdict}
-use Rattle.wire.specs.declared.Verdict.TheVariants.{Accepted, Refused}
+use Rattle.wire.specs.Verdict.{◌then◌, check, each, Verdict, Accepted, Refused}
 use Rattle.wire.proofs.Sums.{sum_begin, sum_grows, triangle}
 use Rattle.wire.proofs.Verdicts.{then_accepted}
 use Rattle.part_table_layout.specs.Pairs.{ends, pairs_from, before_names, pairs_if, pairs_compared}

@@ -2,26 +2,30 @@
 -- Assumes nothing.
 use Prim.Native.Nat.{ℕ, zero, suc, ◌+◌, ◌-◌, ◌≤◌, ◌<◌}
 use mathlib.Core.Path.{◌≡◌, refl, sym, ◌∙◌, ap}
-use mathlib.Core.Bool.{Bool, true, false, ◌&&◌, ◌||◌, not, true≢false}
-use mathlib.Core.List.{List}
+use mathlib.Core.Bool.{Bool, cond, true, false, ◌&&◌, ◌||◌, not, true≢false}
+use mathlib.Core.List.{List, ◌∷◌}
 use native.Mathlib.Nat.{add-zero}
 use native.Mathlib.Numerals.{add-one}
 use native.Mathlib.Omega.{arith}
 use lib.Dec.{ltb, eqb}
-use lib.ListN.{get_or}
-use borrow.Author.Tests.{eq-eqb, ne_eqb, lt-ltb, le-ltb, ltb-true, ltb-false}
+use Rattle.std.specs.Prelude.{None, Option, Some}
+use Rattle.std.specs.List.{position_or_len}
+use Rattle.std.proofs.lemmas.List.{get_or-take, length-take-le}
+use Rattle.std.proofs.lemmas.List.Recursion.{is_position_or_len}
+use lib.ListN.{length, get_or, take}
+use borrow.Author.Tests.{lt-ltb, le-ltb, ltb-true, ltb-false}
 use Rattle.wire.specs.Choice.{choose}
 use Rattle.wire.specs.Search.{first_from, first}
 use Rattle.wire.specs.Sum.{sum_below}
-use Rattle.wire.specs.Verdict.{◌then◌, each}
-use Rattle.wire.specs.declared.Verdict.{Verdict}
-use Rattle.wire.specs.declared.Verdict.TheVariants.{Accepted, Refused}
-use Rattle.wire.proofs.Searches.{Searched, begin, more, found, none, first_agree, first_le, first_none}
+use Rattle.wire.specs.Verdict.{◌then◌, each, Verdict, Accepted, Refused}
+use Rattle.wire.proofs.Searches.{first_agree, first_le, first_none}
 use Rattle.wire.proofs.Sums.{sum_begin, sum_more, sum_grows, triangle}
 use Rattle.wire.proofs.Verdicts.{then_accepted, each_none, each_stop, each_next, each_done, checked, check_accepted, check_fails, stop_then, pass_then}
+use Rattle.part_table_layout.specs.Lookup.{found_below}
 use Rattle.part_table_layout.specs.Pairs.{gone_from, ends, pairs_at, pairs_from, before_names, pairs_if, pairs_compared, table_asked}
 use Rattle.part_table_layout.specs.Table.{may_repeat, has_name, may_stand, name_judged, count_of, name_at, header_judged, part_judged, filled, table_of}
-use Rattle.part_table_layout.proofs.Filled.{filled_below, filled_all}
+use Rattle.part_table_layout.proofs.Filled.{filled_all, taken_length, taken_below}
+use Rattle.part_table_layout.proofs.Occurrences.{at_told, nothing_told}
 use Rattle.part_table_layout.proofs.Judged.{Walked, stand_agree}
 
 -- ---- how far the numbers are gone through, by the first at which the test is true
@@ -73,27 +77,36 @@ never_ends names x j h = go (eqb (names j) x) refl
     go true e = simp (e, h)
     go false e = rw e
 
--- the name x was compared with the names before j of n, and nothing ended the walk
-pub record Against (names : List ℕ) (x n j : ℕ) : Type 0 where
-  pub so_far : Searched (ends (λ k. get_or names k 0) x) n j
+-- ---- a search in a list
+shifted : (p q : ℕ → Bool) → ((k : ℕ) → p (suc k) ≡ q k) → (i m : ℕ) → first_from p (suc i) m ≡ suc (first_from q i m)
+shifted p q h i zero = refl
+shifted p q h i (suc m) = rw (h i, shifted p q h (suc i) m) (go (q i))
+  where
+    go : (t : Bool) → choose t (suc i) (suc (first_from q (suc i) m)) ≡ suc (choose t i (first_from q (suc i) m))
+    go true = refl
+    go false = refl
 
-pub against_none : (names : List ℕ) (x n : ℕ) → Against names x n 0
-against_none names x n = record { so_far = begin _ n }
+-- the first that passes, as a number below the list's length
+pub positioned : (p : ℕ → Bool) (xs : List ℕ)
+    → cond (ltb (position_or_len p xs) (length xs)) (Some (position_or_len p xs)) None ≡ found_below (length xs) (first (λ k. p (get_or xs k 0)) (length xs))
+positioned p xs = rw (← is_position_or_len (λ l. first (λ k. p (get_or l k 0)) (length l)) p refl step xs) (same (ltb (first (λ k. p (get_or xs k 0)) (length xs)) (length xs)) (first (λ k. p (get_or xs k 0)) (length xs)))
+  where
+    step : (y : ℕ) (ys : List ℕ) → first (λ k. p (get_or (y ∷ ys) k 0)) (suc (length ys)) ≡ cond (p y) 0 (1 + first (λ k. p (get_or ys k 0)) (length ys))
+    step y ys = rw (shifted (λ k. p (get_or (y ∷ ys) k 0)) (λ k. p (get_or ys k 0)) (λ k. refl) 0 (length ys)) (go (p y))
+      where
+        go : (t : Bool) → choose t 0 (suc (first (λ k. p (get_or ys k 0)) (length ys))) ≡ cond t 0 (1 + first (λ k. p (get_or ys k 0)) (length ys))
+        go true = refl
+        go false = omega arith
 
-module _ (names : List ℕ) (x n j : ℕ) (w : Against names x n j) where
-  pub against_other : j < n → (get_or names j 0 ≡ x → ⊥) → Against names x n (j + 1)
-  unfolding ends
-  against_other l e = record { so_far = more _ n w.so_far l (simp (ne_eqb (get_or names j 0) x e)) }
+    same : (t : Bool) (n : ℕ) → cond t (Some n) None ≡ choose t (Some n) None
+    same true n = refl
+    same false n = refl
 
-  pub against_repeated : j < n → {r : Bool} → r ≡ may_repeat x → r ≡ true → Against names x n (j + 1)
-  against_repeated l h e = record { so_far = more _ n w.so_far l (never_ends _ x j (sym h ∙ e)) }
-
-  pub against_match : j < n → get_or names j 0 ≡ x → {r : Bool} → r ≡ may_repeat x → r ≡ false → j ≡ first (ends (λ k. get_or names k 0) x) n
-  unfolding ends
-  against_match l e h f = found _ n w.so_far l (let q = sym h ∙ f in simp (eq-eqb (get_or names j 0) x e, q))
-
-  pub against_all : n ≤ j → n ≡ first (ends (λ k. get_or names k 0) x) n
-  against_all l = let e = none _ n w.so_far l in omega (arith, w.so_far.0)
+-- the name x is compared with the names in order, up to the one that ends the walk
+pub walk_is : (names : List ℕ) (x : ℕ) {r : Bool} → r ≡ may_repeat x
+    → found_below (length names) (first (λ k. eqb (get_or names k 0) x && not r) (length names)) ≡ found_below (length names) (first (ends (λ k. get_or names k 0) x) (length names))
+unfolding ends
+walk_is names x h = rw h
 
 -- ---- a part may stand where nothing ends the walk over the names before it
 stand_is : (names : ℕ → ℕ) (x k : ℕ) → may_stand names x k ≡ not (ltb (first (ends names x) k) k)
@@ -244,6 +257,35 @@ module _ (names : ℕ → ℕ) {n k c : ℕ} (w : Compared names n k c) where
       let e : k ≡ n = omega (arith, w.within) in
       (a, w.pairs ∙ rw e (sym r))
 
+-- ---- the same of a list of names, where f is what the walk over those before the k-th found
+module _ (names : List ℕ) {k c : ℕ} (w : Compared (λ i. get_or names i 0) (length names) k c) (l : k < length names) {f : Option ℕ}
+    (h : f ≡ found_below (length (take k names)) (first (ends (λ i. get_or (take k names) i 0) (get_or names k 0)) (length (take k names)))) where
+  abbrev to : ℕ
+  to = first (ends (λ i. get_or names i 0) (get_or names k 0)) k
+
+  walked : f ≡ found_below k to
+  unfolding ends
+  walked =
+      let n = length-take-le k names (omega arith) in
+      let a = first_agree (ends (λ i. get_or (take k names) i 0) (get_or names k 0)) (ends (λ i. get_or names i 0) (get_or names k 0)) k (λ j g. let e = get_or-take k names j 0 g in rw e) in
+      h ∙ rw (n, a)
+
+  pub list_on : f ≡ None → Compared (λ i. get_or names i 0) (length names) (k + 1) (c + k)
+  list_on e = compare_on _ w l refl (nothing_told k to _ refl (sym walked ∙ e))
+
+  module _ {j : ℕ} (e : f ≡ Some j) where
+    told : (to ≡ j) × (to < k)
+    told = at_told k to j _ refl (sym walked ∙ e)
+
+    pub list_below : j < k
+    list_below = let t = told in omega (arith, t.0, t.1)
+
+    pub list_stops : each (name_judged (λ i. get_or names i 0)) (length names) ≡ Refused 9 k
+    list_stops = compare_stops _ w l refl told.1
+
+    pub list_ends : c + j + 1 ≡ pairs_from (λ i. get_or names i 0) 0 (length names)
+    list_ends = compare_ends _ w l (sym told.0) list_below
+
 -- ---- a reading, for who asks and who doesn't
 -- 8 refused, and no pair was compared
 pub eight_pairs : (b : List ℕ) (c : Bool) {n m p : ℕ} → n ≡ count_of b → each (part_judged b) n ≡ Refused m p
@@ -253,27 +295,27 @@ eight_pairs b false hn h = refl
 
 -- 8 passed, and the names of the table were compared
 pub nine_pairs : (b : List ℕ) (c : Bool) {n i end : ℕ} {names : List ℕ} → n ≡ count_of b → n ≤ 96 → Walked b n i end → n ≤ i → names ≡ filled (name_at b) i
-    → {m : ℕ} → m ≡ choose c (pairs_from (λ k. get_or names k 0) 0 n) 0 → m ≡ choose c (pairs_if (each (part_judged b) (count_of b)) b) 0
-nine_pairs b false hn l w g hx h = h
-nine_pairs b true {n} hn l w g hx h =
+    → choose c (pairs_from (λ k. get_or (take n names) k 0) 0 (length (take n names))) 0 ≡ choose c (pairs_if (each (part_judged b) (count_of b)) b) 0
+nine_pairs b false hn l w g hx = refl
+nine_pairs b true {n} hn l w g hx =
     let e = rw hn at (each_done _ w.within g w.fine) in
-    let q = pairs_agree (λ k. get_or (filled (name_at b) n) k 0) (name_at b) 0 n (λ j k. filled_below (name_at b) n j l (omega arith)) in
-    h ∙ rw (filled_all (name_at b) w.within g hx, q, hn, e)
+    let q = pairs_agree (λ k. get_or (take n (filled (name_at b) n)) k 0) (name_at b) 0 n (λ j k. taken_below (name_at b) n j l (omega arith)) in
+    rw (filled_all (name_at b) w.within g hx, taken_length (name_at b) n l, q, hn, e)
 
 -- who doesn't ask gets no number
 pub unasked : (b : List ℕ) → table_asked false b ≡ table_of b
 unasked b = refl
 
 -- 1 to 7
-module _ (b : List ℕ) (c : Bool) {v : Verdict} (hv : v ≡ header_judged b) where
-  pub header_pairs : {m p : ℕ} → v ≡ Refused m p → 0 ≡ choose c (pairs_compared b) 0
+module _ (b : List ℕ) (c : Bool) where
+  pub header_pairs : {m p : ℕ} → header_judged b ≡ Refused m p → 0 ≡ choose c (pairs_compared b) 0
   unfolding pairs_compared before_names
-  header_pairs h = go c (stop_then _ (each (part_judged b) (count_of b)) _ _ (sym hv ∙ h))
+  header_pairs h = go c (stop_then _ (each (part_judged b) (count_of b)) _ _ h)
     where
       go : (t : Bool) {m p : ℕ} → Refused m p ≡ (header_judged b then each (part_judged b) (count_of b)) → 0 ≡ choose t (pairs_if (before_names b) b) 0
       go true q = rw (← q)
       go false q = refl
 
-  pub parts_pairs : v ≡ Accepted → choose c (pairs_if (each (part_judged b) (count_of b)) b) 0 ≡ choose c (pairs_compared b) 0
+  pub parts_pairs : header_judged b ≡ Accepted → choose c (pairs_if (each (part_judged b) (count_of b)) b) 0 ≡ choose c (pairs_compared b) 0
   unfolding pairs_compared before_names
-  parts_pairs h = ap (λ (w : Verdict). choose c (pairs_if w b) 0) (pass_then (header_judged b) (each (part_judged b) (count_of b)) _ (sym hv ∙ h) refl)
+  parts_pairs h = ap (λ (w : Verdict). choose c (pairs_if w b) 0) (pass_then (header_judged b) (each (part_judged b) (count_of b)) _ h refl)

@@ -7,7 +7,8 @@ use mathlib.Core.Logic.{⊎_elim}
 use native.Mathlib.Nat.{le_of_suc-le-suc, eq-or-lt_of_le}
 use native.Mathlib.Numerals.{add-one}
 use native.Mathlib.Omega.{arith}
-use lib.ListN.{length, get_or, set, replicate, length-set}
+use lib.ListN.{length, get_or, set, take, replicate, length-set}
+use Rattle.std.proofs.lemmas.List.{get_or-take, length-take-le}
 use lib.Seq.{get_or-set_same, get_or-set_other}
 use Rattle.part_table_layout.specs.Table.{filled}
 
@@ -28,6 +29,14 @@ module _ (f : ℕ → ℕ) where
       ⊎_elim (λ e. rw e (get_or-set_same (filled f n) n (f n) 0 (rw filled_length (omega arith))))
       (λ g. get_or-set_other (filled f n) n k (f n) 0 (λ e. omega arith) ∙ filled_below n k (omega arith) g)
       (eq-or-lt_of_le (le_of_suc-le-suc h))
+
+-- the first n entries alone
+module _ (f : ℕ → ℕ) (n : ℕ) where
+  pub taken_length : n ≤ 96 → length (take n (filled f n)) ≡ n
+  taken_length l = length-take-le n (filled f n) (rw filled_length l)
+
+  pub taken_below : (k : ℕ) → n ≤ 96 → k < n → get_or (take n (filled f n)) k 0 ≡ f k
+  taken_below k l h = get_or-take n (filled f n) k 0 h ∙ filled_below f n k l h
 
 pub filled_agree : (f g : ℕ → ℕ) (n : ℕ) → ((k : ℕ) → k < n → f k ≡ g k) → filled f n ≡ filled g n
 filled_agree f g zero h = refl

@@ -9,17 +9,16 @@ use native.Mathlib.Nat.{eq-or-lt_of_le}
 use native.Mathlib.Numerals.{add-one}
 use native.Mathlib.Omega.{arith}
 use lib.Dec.{ltb}
-use lib.ListN.{length, get_or}
+use lib.ListN.{length, get_or, take}
+use Rattle.std.proofs.lemmas.List.{get_or-take, length-take-le}
 use borrow.Author.Tests.{lt-ltb, le-ltb, ltb-true, ltb-false, eq-eqb, ne_eqb, le-leb, lt-leb}
 use Rattle.wire.specs.Number.{u32_at}
 use Rattle.wire.specs.Search.{first}
-use Rattle.wire.specs.Verdict.{each}
-use Rattle.wire.specs.declared.Verdict.{Verdict}
-use Rattle.wire.specs.declared.Verdict.TheVariants.{Accepted, Refused}
+use Rattle.wire.specs.Verdict.{each, Accepted, Refused}
 use Rattle.wire.proofs.Searches.{first_agree, first_below, first_at, first_is, first_none}
 use Rattle.wire.proofs.Verdicts.{checked, check_fails, each_none, each_stop, each_next, each_done, each_cong, stop_then, pass_then}
 use Rattle.part_table_layout.specs.Table.{count_of, offset_at, name_at, size_at, end_at, earliest, part_judged, has_name, stood_earlier, may_repeat, may_stand, name_judged, gap_at, parts_judged, filled}
-use Rattle.part_table_layout.proofs.Filled.{filled_below, filled_all}
+use Rattle.part_table_layout.proofs.Filled.{filled_all, taken_length, taken_below}
 
 pub offset_is : (b : List ℕ) (k : ℕ) {s : ℕ} → s ≡ u32_at b (32 + 4 * k) → s ≡ offset_at b k
 unfolding offset_at
@@ -70,14 +69,14 @@ pub walk_begin : (b : List ℕ) {n : ℕ} → n ≡ count_of b → Walked b n 0 
 unfolding earliest
 walk_begin b h = record { within = omega arith; fine = each_none _; next = rw h }
 
-module _ (b : List ℕ) {n i end : ℕ} (w : Walked b n i end) (l : i < n) {v : Verdict} (hv : v ≡ part_judged b i) where
-  pub walk_on : v ≡ Accepted → {s z : ℕ} → s ≡ offset_at b i → z ≡ size_at b i → Walked b n (i + 1) (s + 8 + z)
+module _ (b : List ℕ) {n i end : ℕ} (w : Walked b n i end) (l : i < n) where
+  pub walk_on : part_judged b i ≡ Accepted → {s z : ℕ} → s ≡ offset_at b i → z ≡ size_at b i → Walked b n (i + 1) (s + 8 + z)
   unfolding earliest end_at
   walk_on e hs hz =
-      record { within = omega arith; fine = rw add-one (each_next _ _ w.fine (sym hv ∙ e)); next = rw (add-one, hs, hz) }
+      record { within = omega arith; fine = rw add-one (each_next _ _ w.fine e); next = rw (add-one, hs, hz) }
 
-  pub walk_stops : {m p : ℕ} → v ≡ Refused m p → each (part_judged b) n ≡ Refused m p
-  walk_stops e = each_stop _ _ _ _ _ l w.fine (sym hv ∙ e)
+  pub walk_stops : {m p : ℕ} → part_judged b i ≡ Refused m p → each (part_judged b) n ≡ Refused m p
+  walk_stops e = each_stop _ _ _ _ _ l w.fine e
 
 -- 9 of name k: whether a part with the name x may stand after the first k, where t is whether one of them has that name
 module _ (names : ℕ → ℕ) (x k : ℕ) {t : Bool} (h : t ≡ stood_earlier names x k) where
@@ -96,15 +95,6 @@ module _ (names : ℕ → ℕ) (x k : ℕ) {t : Bool} (h : t ≡ stood_earlier n
       go : (s : Bool) → true ≡ (s || not (stood_earlier names x k))
       go true = refl
       go false = rw (← h, e)
-
-module _ (names : ℕ → ℕ) (k : ℕ) {t : Bool} (h : t ≡ may_stand names (names k) k) where
-  pub name_refused : t ≡ false → name_judged names k ≡ Refused 9 k
-  unfolding name_judged
-  name_refused e = check_fails _ _ _ (sym h ∙ e)
-
-  pub name_accepted : t ≡ true → name_judged names k ≡ Accepted
-  unfolding name_judged
-  name_accepted e = checked _ _ _ (sym h ∙ e)
 
 -- whether x is one of the first i names
 unfoldable pub seen_below : List ℕ → ℕ → ℕ → Bool
@@ -156,6 +146,22 @@ stand_agree f g x k h =
     let e : first (has_name f x) k ≡ first (has_name g x) k = first_agree _ _ k (λ j l. let p = h j l in rw p) in
     rw e
 
+-- 9 of name i, looked at among those before it
+module _ (names : List ℕ) (i : ℕ) (l : i < length names) {t : Bool}
+    (h : t ≡ may_stand (λ k. get_or (take i names) k 0) (get_or names i 0) (length (take i names))) where
+  stands_here : t ≡ may_stand (λ k. get_or names k 0) (get_or names i 0) i
+  stands_here =
+      let n = length-take-le i names (omega arith) in
+      h ∙ rw n (stand_agree _ _ (get_or names i 0) i (λ j g. get_or-take i names j 0 g))
+
+  pub name_refused : t ≡ false → name_judged (λ k. get_or names k 0) i ≡ Refused 9 i
+  unfolding name_judged
+  name_refused e = check_fails _ _ _ (sym stands_here ∙ e)
+
+  pub name_accepted : t ≡ true → name_judged (λ k. get_or names k 0) i ≡ Accepted
+  unfolding name_judged
+  name_accepted e = checked _ _ _ (sym stands_here ∙ e)
+
 name_agree : (f g : ℕ → ℕ) (k : ℕ) → ((j : ℕ) → j ≤ k → f j ≡ g j) → name_judged f k ≡ name_judged g k
 unfolding name_judged
 name_agree f g k h =
@@ -165,19 +171,19 @@ name_agree f g k h =
 
 -- the names of a table repeat where those of the file do
 pub names_agree : (b : List ℕ) {n : ℕ} → n ≤ 96
-    → each (name_judged (λ k. get_or (filled (name_at b) n) k 0)) n ≡ each (name_judged (name_at b)) n
+    → each (name_judged (λ k. get_or (take n (filled (name_at b) n)) k 0)) (length (take n (filled (name_at b) n))) ≡ each (name_judged (name_at b)) n
 names_agree b {n} l =
-    each_cong _ _ n (λ k h. name_agree _ _ k (λ j g. filled_below (name_at b) n j l (omega arith)))
+    rw (taken_length (name_at b) n l) (each_cong _ _ n (λ k h. name_agree _ _ k (λ j g. taken_below (name_at b) n j l (omega arith))))
 
 -- ---- 8, then 9
-module _ (b : List ℕ) {n : ℕ} (hn : n ≡ count_of b) {v : Verdict} where
-  pub eight_refused : {m p : ℕ} → v ≡ Refused m p → each (part_judged b) n ≡ Refused m p → v ≡ parts_judged b
+module _ (b : List ℕ) {n : ℕ} (hn : n ≡ count_of b) where
+  pub eight_refused : {m p : ℕ} → each (part_judged b) n ≡ Refused m p → Refused m p ≡ parts_judged b
   unfolding parts_judged
-  eight_refused e h = e ∙ stop_then _ (each (name_judged (name_at b)) (count_of b)) _ _ (rw hn at h)
+  eight_refused h = stop_then _ (each (name_judged (name_at b)) (count_of b)) _ _ (rw hn at h)
 
   pub nine_is : {i end : ℕ} {names : List ℕ} → n ≤ 96 → Walked b n i end → n ≤ i → names ≡ filled (name_at b) i
-      → v ≡ each (name_judged (λ k. get_or names k 0)) n → v ≡ parts_judged b
+      → each (name_judged (λ k. get_or (take n names) k 0)) (length (take n names)) ≡ parts_judged b
   unfolding parts_judged
-  nine_is l w ni hx hv =
+  nine_is l w ni hx =
       pass_then _ _ _ (rw hn at (each_done _ w.within ni w.fine))
-      (hv ∙ rw (filled_all (name_at b) w.within ni hx) (names_agree b l ∙ rw hn))
+      (rw (filled_all (name_at b) w.within ni hx) (names_agree b l ∙ rw hn))

@@ -1,5 +1,6 @@
 -- Among n names: the one with a name and an occurrence, and what a running counter of the names that may repeat gives.
 -- Assumes nothing.
+use Rattle.std.specs.Prelude.{None, Option, Some}
 use Prim.Native.Nat.{ℕ, zero, suc, ◌+◌, ◌-◌, ◌≤◌, ◌<◌}
 use mathlib.Core.Path.{◌≡◌, refl, sym}
 use mathlib.Core.Bool.{Bool, true, false, ◌&&◌}
@@ -17,15 +18,13 @@ use Rattle.wire.proofs.Searches.{first_agree, first_below, first_at, first_is, f
 use Rattle.wire.proofs.Sums.{count_agree, count_begin, count_hit, count_miss, count_none, count_le, count_past}
 use Rattle.part_table_layout.specs.Lookup.{first_named, is_occurrence, occurrence_named}
 use Rattle.part_table_layout.specs.Table.{has_name, priv, may_repeat, borne, occurrence_at}
-use Rattle.part_table_layout.specs.declared.Found.{Found}
-use Rattle.part_table_layout.specs.declared.Found.TheVariants.{At, Nothing}
 use Rattle.part_table_layout.proofs.Accepted.{Fresh}
 
-pub at_told : (n r k : ℕ) (t : Bool) → ltb r n ≡ t → choose t (At r) Nothing ≡ At k → (r ≡ k) × (r < n)
+pub at_told : (n r k : ℕ) (t : Bool) → ltb r n ≡ t → choose t (Some r) None ≡ Some k → (r ≡ k) × (r < n)
 at_told n r k true e h = (cc, ltb-true r n e)
 at_told n r k false e h = absurd (let z : ◌≡◌ {A = ℕ} 0 1 = cc in omega arith)
 
-pub nothing_told : (n r : ℕ) (t : Bool) → ltb r n ≡ t → choose t (At r) Nothing ≡ Nothing → n ≤ r
+pub nothing_told : (n r : ℕ) (t : Bool) → ltb r n ≡ t → choose t (Some r) None ≡ None → n ≤ r
 nothing_told n r true e h = absurd (let z : ◌≡◌ {A = ℕ} 0 1 = cc in omega arith)
 nothing_told n r false e h = ltb-false r n e
 
@@ -36,7 +35,7 @@ module _ (names : ℕ → ℕ) (n x : ℕ) where
     pub named : names k ≡ x
     pub none_earlier : (j : ℕ) → j < k → names j ≡ x → ⊥
 
-  pub first_told : (k : ℕ) → first_named names n x ≡ At k → First k
+  pub first_told : (k : ℕ) → first_named names n x ≡ Some k → First k
   first_told k h =
       let p = has_name names x in
       let r = first p n in
@@ -48,18 +47,18 @@ module _ (names : ℕ → ℕ) (n x : ℕ) where
         none_earlier = λ j l. eqb-false (names j) x (first_below p n j (omega arith));
       }
 
-  pub first_named_lem : (k : ℕ) → First k → first_named names n x ≡ At k
+  pub first_named_lem : (k : ℕ) → First k → first_named names n x ≡ Some k
   first_named_lem k h =
       let e = first_is (has_name names x) n k (λ j l. ne_eqb _ _ (h.none_earlier j l)) h.listed (eq-eqb _ _ h.named) in
       rw (e, lt-ltb _ _ h.listed)
 
-  pub none_told : first_named names n x ≡ Nothing → (k : ℕ) → k < n → names k ≡ x → ⊥
+  pub none_told : first_named names n x ≡ None → (k : ℕ) → k < n → names k ≡ x → ⊥
   none_told h k l =
       let p = has_name names x in
       let r = nothing_told n (first p n) _ refl h in
       eqb-false (names k) x (first_below p n k (omega arith))
 
-  pub none_named : ((k : ℕ) → k < n → names k ≡ x → ⊥) → first_named names n x ≡ Nothing
+  pub none_named : ((k : ℕ) → k < n → names k ≡ x → ⊥) → first_named names n x ≡ None
   none_named h =
       let e = first_none (has_name names x) n (λ j l. ne_eqb _ _ (h j l)) in
       rw (e, le-ltb n n (omega arith))
@@ -71,7 +70,7 @@ module _ (names : ℕ → ℕ) (n x : ℕ) where
     pub named : names k ≡ x
     pub earlier : borne names x k ≡ o
 
-  pub occurs_told : (o k : ℕ) → occurrence_named names n x o ≡ At k → Occurs o k
+  pub occurs_told : (o k : ℕ) → occurrence_named names n x o ≡ Some k → Occurs o k
   occurs_told o k h =
       let p = is_occurrence names x o in
       let r = first p n in
@@ -92,14 +91,14 @@ module _ (names : ℕ → ℕ) (n x : ℕ) where
       go false q = refl
       go true q = let c = count_past (has_name names x) j k l q in ne_eqb (borne names x j) o (λ z. omega arith)
 
-  pub occurs_is : (o k : ℕ) → Occurs o k → occurrence_named names n x o ≡ At k
+  pub occurs_is : (o k : ℕ) → Occurs o k → occurrence_named names n x o ≡ Some k
   occurs_is o k h =
       let t : is_occurrence names x o k ≡ true = simp (eq-eqb _ _ h.named, eq-eqb _ _ h.earlier) in
       let e = first_is (is_occurrence names x o) n k (none_below o k (let q = h.earlier in omega arith)) h.listed t in
       rw (e, lt-ltb _ _ h.listed)
 
   -- "a number that is too great": so many or fewer names are x
-  pub too_great : (o : ℕ) → borne names x n ≤ o → occurrence_named names n x o ≡ Nothing
+  pub too_great : (o : ℕ) → borne names x n ≤ o → occurrence_named names n x o ≡ None
   too_great o h =
       let e = first_none (is_occurrence names x o) n (none_below o n h) in
       rw (e, le-ltb n n (omega arith))
@@ -116,7 +115,7 @@ module _ (names : ℕ → ℕ) (n x : ℕ) where
           let z : borne names x k ≡ o → ⊥ = eqb-false (borne names x k) o (rw q at (h k l)) in
           ⊎_elim (λ e. absurd (z e)) (λ m. omega arith) (eq-or-lt_of_le r)
 
-  pub great_told : (o : ℕ) → occurrence_named names n x o ≡ Nothing → borne names x n ≤ o
+  pub great_told : (o : ℕ) → occurrence_named names n x o ≡ None → borne names x n ≤ o
   great_told o h =
       let p = is_occurrence names x o in
       let r = nothing_told n (first p n) _ refl h in
@@ -126,11 +125,11 @@ module _ (names : ℕ → ℕ) (n x : ℕ) where
   pub first_occurs : occurrence_named names n x 0 ≡ first_named names n x
   first_occurs = go (first_named names n x) refl
     where
-      go : (f : Found) → first_named names n x ≡ f → occurrence_named names n x 0 ≡ f
-      go (At k) e =
+      go : (f : Option ℕ) → first_named names n x ≡ f → occurrence_named names n x 0 ≡ f
+      go (Some k) e =
           let f = first_told k e in
           occurs_is 0 k (record { listed = f.listed; named = f.named; earlier = count_none _ k (λ j l. ne_eqb _ _ (f.none_earlier j l)) })
-      go Nothing e = too_great 0 (let c = count_none (has_name names x) n (λ j l. ne_eqb _ _ (none_told e j l)) in omega arith)
+      go None e = too_great 0 (let c = count_none (has_name names x) n (λ j l. ne_eqb _ _ (none_told e j l)) in omega arith)
 
   -- ---- a search has come to i, and has still to pass left names that are x
   pub record Passing (o i left : ℕ) : Type 0 where
@@ -152,10 +151,10 @@ module _ (names : ℕ → ℕ) (n x : ℕ) where
         let s : 0 < left = pos_of_ne-zero some in
         record { within = omega arith; to_pass = rw add-one (let q = p.to_pass in omega arith) }
 
-    pub pass_here : i < n → names i ≡ x → left ≡ 0 → At i ≡ occurrence_named names n x o
+    pub pass_here : i < n → names i ≡ x → left ≡ 0 → Some i ≡ occurrence_named names n x o
     pass_here l e z = sym (occurs_is o i (record { listed = l; named = e; earlier = let q = p.to_pass in omega arith }))
 
-    pub pass_nowhere : n ≤ i → Nothing ≡ occurrence_named names n x o
+    pub pass_nowhere : n ≤ i → None ≡ occurrence_named names n x o
     pass_nowhere l =
         let q : i ≡ n = let w = p.within in omega arith in
         let t : borne names x n + left ≡ o = rw q at p.to_pass in

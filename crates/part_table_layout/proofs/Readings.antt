@@ -1,14 +1,14 @@
 -- The table of a reading, step by step.
 -- Assumes nothing.
 use Prim.Native.Nat.{ℕ, ◌+◌, ◌≤◌}
-use mathlib.Core.Path.{◌≡◌, refl, sym, ◌∙◌, ap}
+use mathlib.Core.Path.{◌≡◌, refl, ◌∙◌, ap}
 use mathlib.Core.Bool.{Bool}
 use mathlib.Core.List.{List}
 use native.Mathlib.Numerals.{add-one}
 use native.Mathlib.Omega.{arith}
 use lib.ListN.{set}
-use Rattle.wire.specs.declared.Verdict.{Verdict}
-use Rattle.wire.specs.declared.Verdict.TheVariants.{Accepted, Refused}
+use Rattle.std.specs.Prelude.{Ok}
+use Rattle.wire.specs.Verdict.{Verdict, Accepted, Refused, under}
 use Rattle.wire.proofs.Verdicts.{then_accepted, each_accepted, stop_then, pass_then}
 use Rattle.part_table_layout.specs.Table.{count_of, offset_at, name_at, size_at, occurrence_at, gap_at, header_judged, parts_judged, table_judged, filled, refused_table, table_if, table_with}
 use Rattle.part_table_layout.specs.declared.Table.{Table}
@@ -21,7 +21,7 @@ use Rattle.part_table_layout.proofs.Occurrences.{counted_at, counted_is}
 abbrev pub table_to : Bool → ℕ → List ℕ → ℕ → Table
 table_to c m b i =
     record {
-      verdict = Accepted;
+      verdict = Ok tt;
       count = count_of b;
       counted = c;
       pairs = m;
@@ -48,23 +48,24 @@ module _ (c : Bool) (m : ℕ) (b : List ℕ) {t : Table} (i : ℕ) (ht : t ≡ t
       ≡ table_to c m b (i + 1)
   entry_more hx hs hz ho hg = rw (ht, hx, hs, hz, ho, hg, add-one)
 
-verdict_if : (c : Bool) (m : ℕ) (v : Verdict) (b : List ℕ) → (table_if c m v b).verdict ≡ v
+verdict_if : (c : Bool) (m : ℕ) (v : Verdict) (b : List ℕ) → (table_if c m v b).verdict ≡ under v tt
+unfolding under
 verdict_if c m Accepted b = refl
 verdict_if c m (Refused n p) b = refl
 
--- ---- what is shown under the verdict v of 8 and 9, with m pairs
-module _ (c : Bool) {m q : ℕ} (hm : m ≡ q) (b : List ℕ) {v : Verdict} (hv : v ≡ parts_judged b) where
-  pub none_shown : {n p : ℕ} → v ≡ Refused n p → refused_table c m v ≡ table_if c q (parts_judged b) b
-  none_shown e = rw (← hv, e, hm)
+-- ---- what is shown under the verdict of 8 and 9, with m pairs
+module _ (c : Bool) {m q : ℕ} (hm : m ≡ q) (b : List ℕ) where
+  pub none_shown : {n p : ℕ} → parts_judged b ≡ Refused n p → refused_table c m (Refused n p) ≡ table_if c q (parts_judged b) b
+  none_shown e = rw (e, hm)
 
   -- once 9 has passed, what the counter gave are the occurrences
-  counted : v ≡ Accepted → filled (counted_at (name_at b)) (count_of b) ≡ filled (occurrence_at (name_at b)) (count_of b)
+  counted : parts_judged b ≡ Accepted → filled (counted_at (name_at b)) (count_of b) ≡ filled (occurrence_at (name_at b)) (count_of b)
   unfolding parts_judged
   counted e =
-      let names = (then_accepted _ _ (sym hv ∙ e)).1 in
+      let names = (then_accepted _ _ e).1 in
       filled_agree _ _ (count_of b) (λ k l. counted_is (name_at b) k (name_told (name_at b) k (each_accepted _ _ k names l)))
 
-  pub all_shown : v ≡ Accepted → {n i end : ℕ} → n ≡ count_of b → Walked b n i end → n ≤ i
+  pub all_shown : parts_judged b ≡ Accepted → {n i end : ℕ} → n ≡ count_of b → Walked b n i end → n ≤ i
       → {d : ℕ} {t : Table} → t ≡ table_to c d b i
       → record {
         verdict = t.verdict;
@@ -80,19 +81,19 @@ module _ (c : Bool) {m q : ℕ} (hm : m ≡ q) (b : List ℕ) {v : Verdict} (hv 
       ≡ table_if c q (parts_judged b) b
   all_shown e {n} {i} hn w g ht =
       let last : i ≡ count_of b = omega (arith, w.within) in
-      rw (ht, last, counted e, ← hv, e, hm)
+      rw (ht, last, counted e, e, hm)
 
 -- 1 to 7, then the parts
-module _ (c : Bool) {m q : ℕ} (hm : m ≡ q) (b : List ℕ) {v : Verdict} (hv : v ≡ header_judged b) where
-  pub header_refused : {n p : ℕ} → v ≡ Refused n p → refused_table c m v ≡ table_with c q b
+module _ (c : Bool) {m q : ℕ} (hm : m ≡ q) (b : List ℕ) where
+  pub header_refused : {n p : ℕ} → header_judged b ≡ Refused n p → refused_table c m (Refused n p) ≡ table_with c q b
   unfolding table_with table_judged
-  header_refused h = let r = stop_then (header_judged b) (parts_judged b) _ _ (sym hv ∙ h) in rw (h, ← r, hm)
+  header_refused h = let r = stop_then (header_judged b) (parts_judged b) _ _ h in rw (← r, hm)
 
-  pub header_accepted : v ≡ Accepted → table_if c m (parts_judged b) b ≡ table_with c q b
+  pub header_accepted : header_judged b ≡ Accepted → table_if c m (parts_judged b) b ≡ table_with c q b
   unfolding table_with table_judged
-  header_accepted h = rw hm (ap (λ (w : Verdict). table_if c q w b) (pass_then (header_judged b) (parts_judged b) _ (sym hv ∙ h) refl))
+  header_accepted h = rw hm (ap (λ (w : Verdict). table_if c q w b) (pass_then (header_judged b) (parts_judged b) _ h refl))
 
 -- the verdict that a table shows is that of 1 to 9
-pub verdict_shown : (c : Bool) (m : ℕ) (b : List ℕ) {t : Table} → t ≡ table_with c m b → t.verdict ≡ table_judged b
+pub verdict_shown : (c : Bool) (m : ℕ) (b : List ℕ) {t : Table} → t ≡ table_with c m b → t.verdict ≡ under (table_judged b) tt
 unfolding table_with
 verdict_shown c m b h = ap (λ (t : Table). t.verdict) h ∙ verdict_if c m (table_judged b) b

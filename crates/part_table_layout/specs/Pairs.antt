@@ -2,9 +2,7 @@
 -- names it compared: for each part in turn, the earlier ones in order; a match ends the count."
 use Rattle.std.specs.Prelude.{Bool, true, ◌&&◌, not, List, ℕ, zero, suc, ◌+◌}
 use Rattle.wire.specs.Choice.{choose}
-use Rattle.wire.specs.Verdict.{◌then◌, each}
-use Rattle.wire.specs.declared.Verdict.{Verdict}
-use Rattle.wire.specs.declared.Verdict.TheVariants.{Accepted, Refused}
+use Rattle.wire.specs.Verdict.{◌then◌, each, Verdict, Accepted, Refused}
 use Rattle.part_table_layout.specs.Table.{may_repeat, has_name, may_stand, count_of, name_at, header_judged, part_judged, table_with}
 use Rattle.part_table_layout.specs.declared.Table.{Table}
 

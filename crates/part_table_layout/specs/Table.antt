@@ -1,11 +1,9 @@
 -- The part table of a container, as document 01 has it in "The container" and "Refusal numbers".
-use Rattle.std.specs.Prelude.{Bool, false, ◌&&◌, ◌||◌, not, List, [], ◌∷◌, ◌++◌, ℕ, zero, suc, ◌+◌, ◌-◌, ◌*◌, ltb, leb, eqb, length, take, drop, set, replicate}
+use Rattle.std.specs.Prelude.{Ok, Bool, false, ◌&&◌, ◌||◌, not, List, [], ◌∷◌, ◌++◌, ℕ, zero, suc, ◌+◌, ◌-◌, ◌*◌, ltb, leb, eqb, length, take, drop, set, replicate}
 use Rattle.wire.specs.Number.{u16_at, u32_at, le32}
 use Rattle.wire.specs.Search.{first}
 use Rattle.wire.specs.Sum.{sum_below, count_below}
-use Rattle.wire.specs.Verdict.{◌then◌, check, each}
-use Rattle.wire.specs.declared.Verdict.{Verdict}
-use Rattle.wire.specs.declared.Verdict.TheVariants.{Accepted, Refused}
+use Rattle.wire.specs.Verdict.{◌then◌, check, each, under, Verdict, Accepted, Refused}
 use Rattle.part_table_layout.specs.declared.Table.{Table}
 
 -- offset 0: "the four bytes `DXBC`"
@@ -122,7 +120,7 @@ filled f (suc k) = set (filled f k) k (f k)
 abbrev pub refused_table : Bool → ℕ → Verdict → Table
 refused_table counting m v =
     record {
-      verdict = v;
+      verdict = under v tt;
       count = 0;
       counted = counting;
       pairs = m;
@@ -136,7 +134,7 @@ refused_table counting m v =
 abbrev pub accepted_table : Bool → ℕ → List ℕ → Table
 accepted_table counting m b =
     record {
-      verdict = Accepted;
+      verdict = Ok tt;
       count = count_of b;
       counted = counting;
       pairs = m;

@@ -2,16 +2,18 @@
 // of its own.
 #![tactic(auto)]
 
-use wire::Verdict;
+use wire::Refusal;
 
 // A part table, with room for 96 parts. Entries from count on are zero; a refusal has count 0.
 // Where the reader was asked to count, counted is true and pairs is how many pairs of names the check of 9 compared, beside a refusal too; else
 // it is 0. (Two fields for an enum: one that is no number is not written where it stands, and to build the table anew is to copy it.)
+// Stays: C reads the table as it is, as qollqamir's CTable with fixed memory: so the count beside the arrays, and five arrays for one
+// of structs; and the pairs stand beside a refusal too (clause of read_with, `table_asked`), which a Result has no place for.
 // A name is its four bytes as one little-endian number; an occurrence is how many earlier parts bear the name, a gap how many bytes lie
 // before the part's header, after the part before it or, for the first, after the offset table.
 #[derive(Clone, Copy)]
 pub struct Table {
-    pub verdict: Verdict,
+    pub verdict: Result<(), Refusal>,
     pub count: usize,
     pub counted: bool,
     pub pairs: u32,
@@ -22,29 +24,19 @@ pub struct Table {
     pub gaps: [u32; 96],
 }
 
-// The number of a part, or that there is none.
-#[derive(Clone, Copy)]
-pub enum Found {
-    At(usize),
-    Nothing,
-}
-
-// A part found by its name: its number, where its header starts and its data size. A refusal has zeros.
+// A part found by its name: its number, where its header starts and its data size.
 #[derive(Clone, Copy)]
 pub struct Part {
-    pub verdict: Verdict,
     pub number: usize,
     pub offset: usize,
     pub size: usize,
 }
 
-// Three parts by their names, beside the verdict of 1 to 9 and the number of parts. A part that is not there has 26; a refusal has count 0
-// and stands in each part.
+// Three parts by their names, beside the number of parts. A part that is not there has 26.
 #[derive(Clone, Copy)]
 pub struct ThreeParts {
-    pub verdict: Verdict,
     pub count: usize,
-    pub first: Part,
-    pub second: Part,
-    pub third: Part,
+    pub first: Result<Part, Refusal>,
+    pub second: Result<Part, Refusal>,
+    pub third: Result<Part, Refusal>,
 }

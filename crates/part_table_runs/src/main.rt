@@ -1,8 +1,8 @@
 // Containers at the edges of refusals 1 to 9, and lookups: one line a case, compared with the file stdout.
 #![tactic(auto)]
 
-use part_table_layout::{Found, Part, Table};
-use wire::Verdict;
+use part_table_layout::{Part, Table};
+use wire::Refusal;
 
 // Standard output.
 const STDOUT_FILENO: i32 = 1;
@@ -22,19 +22,18 @@ fn word(n: u32) {
     number(n as u64);
 }
 
-fn refused(n: u8, place: usize) {
+fn refused(r: Refusal) {
     print(b" refused");
-    number(n as u64);
-    number(place as u64);
+    number(r.number as u64);
+    number(r.place as u64);
 }
 
 // What a slice is read as: its number of parts, or its refusal, and the pairs of names that were compared.
 fn verdict(b: &[u8]) {
     let t = part_table::read_with(b, true);
-    let v = t.verdict;
-    match v {
-        Verdict::Refused(n, place) => refused(n, place),
-        Verdict::Accepted => {
+    match t.verdict {
+        Err(r) => refused(r),
+        Ok(()) => {
             print(b" accepted");
             number(t.count as u64);
         }
@@ -96,11 +95,9 @@ fn six(b: &mut [u8; 2048]) {
 fn many(b: &mut [u8; 2048], parts: u8) {
     let n = parts as u32;
     header(b, 32 + 12 * n, n);
-    let mut k: u8 = 0;
-    while k < parts {
+    for k in 0..parts {
         let at = 32 + 4 * n + 8 * (k as u32);
         part(b, k, at, k as u32 + 1, 0);
-        k += 1;
     }
 }
 
@@ -302,11 +299,10 @@ fn bytes(b: &[u8]) {
 }
 
 // A part that was looked up: its number, header offset and data size.
-fn found(p: Part) {
-    let v = p.verdict;
-    match v {
-        Verdict::Refused(r, place) => refused(r, place),
-        Verdict::Accepted => {
+fn found(part: Result<Part, Refusal>) {
+    match part {
+        Err(r) => refused(r),
+        Ok(p) => {
             print(b" part");
             number(p.number as u64);
             number(p.offset as u64);
@@ -367,12 +363,9 @@ fn several_private() {
     print(b"three PRIV:");
     read(&b, 120);
     let t = table(&b, 120);
-    entry(t, 0);
-    entry(t, 1);
-    entry(t, 2);
-    entry(t, 3);
-    entry(t, 4);
-    entry(t, 5);
+    for k in 0..6 {
+        entry(t, k);
+    }
     lookup(&b, 120, b"PRIV");
     occurrence(&b, 120, b"PRIV", 0);
     occurrence(&b, 120, b"PRIV", 1);
@@ -398,10 +391,8 @@ fn others_repeat(name: &[u8; 4]) {
 
 // Gives each of 96 parts with no data one name.
 fn name_all(b: &mut [u8; 2048], name: u32) {
-    let mut k: u8 = 0;
-    while k < 96 {
-        put(b, 416 + 8 * (k as usize), name);
-        k += 1;
+    for k in 0..96 {
+        put(b, 416 + 8 * k, name);
     }
 }
 
@@ -431,10 +422,9 @@ fn among(t: Table, count: usize, x: u32) {
     print(b" among");
     number(count as u64);
     print(b":");
-    let f = part_table::find_name(&t.names, count, x);
-    match f {
-        Found::At(k) => number(k as u64),
-        Found::Nothing => print(b" none"),
+    match part_table::find_name(&t.names, count, x) {
+        Some(k) => number(k as u64),
+        None => print(b" none"),
     }
     print(b"\n");
 }
@@ -470,15 +460,12 @@ fn main() {
     longer(4);
     longer(5);
     past_the_end();
-    same_name(0, 1);
-    same_name(0, 2);
-    same_name(0, 3);
-    same_name(0, 4);
-    same_name(0, 5);
-    same_name(1, 5);
-    same_name(2, 5);
-    same_name(3, 5);
-    same_name(4, 5);
+    for j in 1..6 {
+        same_name(0, j);
+    }
+    for i in 1..5 {
+        same_name(i, 5);
+    }
     two_pairs();
     entries();
     lookups();

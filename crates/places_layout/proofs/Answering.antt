@@ -15,8 +15,7 @@ use Rattle.constants.proofs.Editions.{size_mono}
 use Rattle.utf8_layout.specs.Sequence.{code_points}
 use Rattle.wire.specs.Choice.{choose}
 use Rattle.wire.specs.Number.{u32_at}
-use Rattle.wire.specs.Verdict.{◌then◌, check}
-use Rattle.wire.specs.declared.Verdict.TheVariants.{Accepted}
+use Rattle.wire.specs.Verdict.{◌then◌, check, Accepted}
 use Rattle.wire.proofs.Choices.{both}
 use Rattle.psv0_layout.specs.Field.{stage, vertex_count, vertex_stage, patch_byte, patch_stage, topology, mesh_stage, thread_count, thread_stage, mask_words_of, sum, name_offset_of, index_reference_of, row_count}
 use Rattle.psv0_layout.specs.Layout.{Sections, Seen, rows, body_of, resource_width, seen}

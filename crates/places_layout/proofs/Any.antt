@@ -12,9 +12,7 @@ use lib.ListN.{length, get_or, length-drop}
 use lib.Seq.{length-take-le}
 use borrow.Author.Tests.{leb-true, leb-false, ltb-true}
 use Rattle.wire.specs.Choice.{choose}
-use Rattle.wire.specs.Verdict.{number_of}
-use Rattle.wire.specs.declared.Verdict.{Verdict}
-use Rattle.wire.specs.declared.Verdict.TheVariants.{Accepted, Refused}
+use Rattle.wire.specs.Verdict.{number_of, Verdict, Accepted, Refused}
 use Rattle.wire.proofs.Choices.{both}
 use Rattle.psv0_layout.specs.Layout.{resource_width}
 use Rattle.psv0_layout.specs.Shown.{Value, number, view, Question, stage_union, least_lanes, most_lanes, stage_number, uses_view, max_vertex_count, patch_vector_count, mesh_topology, input_elements, output_elements, patch_elements, input_vector_count, output_vector_count, threads, entry_name_offset_of, resource_field, element_field, element_string, element_points, element_array, mask, entry_name, entry_points, resource_count, string_bytes, index_count, element_count, needs, set_if, value, is_set}

@@ -6,8 +6,8 @@ use mathlib.Core.List.{List, [], ◌∷◌, ◌++◌}
 use lib.ListN.{take, replicate}
 use Rattle.utf8_layout.specs.Sequence.{table, fits, front, more, after, counted as counted_in, well_formed, code_points}
 use Rattle.wire.specs.Number.{u16_at, u32_at}
-use Rattle.wire.specs.Verdict.{◌then◌, check}
-use Rattle.wire.specs.declared.Verdict.TheVariants.{Refused}
+use Rattle.wire.specs.Verdict.{◌then◌, check, under}
+use Rattle.std.specs.Prelude.{Err}
 use Rattle.psv0_layout.specs.Field.{mask_words_of, sum}
 use Rattle.psv0_layout.specs.Judged.{opened}
 use Rattle.psv0_layout.specs.Layout.{counted, after_counted, rows, edition_read_of}
@@ -134,27 +134,7 @@ pub boxes_hold : answers ≡ said
 unfolding u16_at u32_at mask_words_of sum counted after_counted rows next_records stride_at first_record resources_start strings_start indices_start elements_start masks_start has_zero until_zero string_ends string_good string_at index_good array_at value head_at whole_at places_at body_by seen_by source_of is_there readable value_by answered_from answered_by table fits front more after counted_in well_formed code_points
 boxes_hold = refl
 
--- a refused opening hands back zeros
-abbrev nothing : SectionPlaces
-nothing =
-    record {
-      edition = 0;
-      runtime = 0;
-      resources = 0;
-      resource_count = 0;
-      resource_size = 0;
-      strings = 0;
-      string_bytes = 0;
-      indices = 0;
-      index_count = 0;
-      elements = 0;
-      element_count = 0;
-      element_size = 0;
-      masks = 0;
-      mask_words = 0 ∷ 0 ∷ 0 ∷ 0 ∷ 0 ∷ 0 ∷ 0 ∷ 0 ∷ 0 ∷ 0 ∷ 0 ∷ [];
-      stage = 0;
-    }
-
-pub refused_holds : opened_places 4 (box_c 1) ≡ record { verdict = Refused 25 0; file_edition = 0; places = nothing }
-unfolding opened ◌then◌ check opened_places
+-- a refused opening hands back the refusal alone
+pub refused_holds : opened_places 4 (box_c 1) ≡ Err (record { number = 25; place = 0 })
+unfolding opened ◌then◌ check opened_places under
 refused_holds = refl

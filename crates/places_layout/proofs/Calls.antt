@@ -2,6 +2,7 @@
 -- Assumes nothing.
 use Prim.Native.Nat.{ℕ, ◌+◌, ◌*◌, ◌≤◌, ◌<◌}
 use mathlib.Core.Path.{◌≡◌, refl, sym, ◌∙◌, ap}
+use Rattle.std.specs.Prelude.{Ok}
 use mathlib.Core.Bool.{Bool, true, false, ◌&&◌}
 use mathlib.Core.List.{List, []}
 use mathlib.Core.Logic.{◌⊎◌, ⊎_elim}
@@ -9,23 +10,20 @@ use native.Mathlib.Omega.{arith}
 use lib.Dec.{leb, ltb}
 use lib.ListN.{length, get_or, take, drop, length-drop}
 use lib.Seq.{get_or-take, take-take, length-take-le}
-use borrow.Author.Tests.{le-leb, lt-ltb, le-ltb, leb-true, leb-false}
+use borrow.Author.Tests.{le-leb, lt-ltb, le-ltb, leb-true, leb-false, ltb-true}
 use Rattle.constants.specs.Edition.{size_of}
 use Rattle.constants.proofs.Editions.{size_mono}
 use Rattle.wire.specs.Choice.{choose}
 use Rattle.wire.specs.Number.{u16_at, u32_at}
-use Rattle.wire.specs.Verdict.{check}
-use Rattle.wire.specs.declared.Verdict.TheVariants.{Accepted}
+use Rattle.wire.specs.Verdict.{check, under, Verdict, Accepted, Refused}
 use Rattle.wire.proofs.Choices.{choose_eq}
+use Rattle.wire.proofs.Verdicts.{checked, refuses, accepts}
 use Rattle.wire.proofs.Numbers.{u32_take}
-use Rattle.psv0_layout.specs.Answers.{field_of, info_of, resource_of, element_of, refused_info, refused_resource, refused_element}
+use Rattle.psv0_layout.specs.Answers.{field_of, info_of, resource_of, element_of}
 use Rattle.psv0_layout.specs.Layout.{Seen, no_body, resource_width}
-use Rattle.psv0_layout.specs.Parts.{resource_shown, element_shown}
+use Rattle.psv0_layout.specs.Parts.{resource_shown, element_shown, refused_with}
 use Rattle.psv0_layout.specs.Shown.{Value, unset, number, Question, least_lanes, most_lanes, stage_number, uses_view, max_vertex_count, patch_vector_count, mesh_topology, input_elements, output_elements, patch_elements, input_vector_count, output_vector_count, threads, entry_name_offset_of, resource_field, element_field, needs, set_if, element_fields, value}
-use Rattle.psv0_layout.specs.declared.ElementAnswer.{ElementAnswer}
 use Rattle.psv0_layout.specs.declared.ElementRecord.{ElementRecord}
-use Rattle.psv0_layout.specs.declared.InfoAnswer.{InfoAnswer}
-use Rattle.psv0_layout.specs.declared.ResourceAnswer.{ResourceAnswer}
 use Rattle.psv0_layout.specs.declared.ResourceRecord.{ResourceRecord}
 use Rattle.psv0_layout.proofs.Positions.{part_u16, rows_length}
 use Rattle.places_layout.specs.Answers.{shown_by, info_by, resource_by, element_by}
@@ -33,7 +31,7 @@ use Rattle.places_layout.specs.Parts.{staged, of_runtime}
 use Rattle.places_layout.specs.Read.{body_by, seen_by, source_of, is_there, readable, value_by, Answer, given, refusal, answered_from, answered_by}
 use Rattle.places_layout.specs.declared.SectionPlaces.{SectionPlaces}
 use Rattle.places_layout.proofs.Any.{width_mono}
-use Rattle.places_layout.proofs.Standing.{too_early, not_there, outside, reads, resource_row, element_row}
+use Rattle.places_layout.proofs.Standing.{too_early, not_there, resource_row, element_row}
 
 -- ---- the runtime record
 module _ (p : SectionPlaces) (b : List ℕ) where
@@ -117,14 +115,16 @@ module _ (p : SectionPlaces) (b : List ℕ) where
       go true x = refl
       go false x = refl
 
-  pub info_read : runtime_inside ≡ true
-      → ◌≡◌ {A = InfoAnswer} (record { verdict = Accepted; info = info_of (of_runtime p.stage p.edition runtime) }) (info_by p b)
-  unfolding info_by check
-  info_read t = sym ((λ i. record { verdict = info_verdict i; info = info_fields i }) ∙ rw t)
+  -- the record's own test decides
+  pub info_is : under (check runtime_inside 29 0) (info_of (shown_by p b)) ≡ info_by p b
+  unfolding info_by
+  info_is = ap (λ v. under v (info_of (shown_by p b))) (sym info_verdict)
 
-  pub info_outside : runtime_inside ≡ false → refused_info 29 0 ≡ info_by p b
-  unfolding info_by check
-  info_outside t = sym ((λ i. record { verdict = info_verdict i; info = info_fields i }) ∙ rw t)
+  pub info_read : runtime_inside ≡ true → Ok (info_of (of_runtime p.stage p.edition runtime)) ≡ info_by p b
+  unfolding info_by
+  info_read t =
+      let same : info_of (of_runtime p.stage p.edition runtime) ≡ info_of (shown_by p b) = sym (info_fields ∙ rw t) in
+      ap Ok same ∙ accepts _ _ (sym (info_verdict ∙ checked _ 29 0 t))
 
 -- ---- answers by their tests
 module _ (p : SectionPlaces) (b : List ℕ) (q : Question) where
@@ -134,16 +134,6 @@ module _ (p : SectionPlaces) (b : List ℕ) (q : Question) where
       → answered_by p b q ≡ choose t (choose u (given x) (refusal 29)) (refusal 26)
   unfolding answered_by answered_from
   answered_as t u x h e f g = rw (le-leb _ _ h, e, f, g)
-
-  -- what can't be read isn't shown
-  hidden : readable p b (source_of p q) ≡ false → unset ≡ shown_by p b q
-  unfolding shown_by answered_by answered_from
-  hidden e = go (leb (needs q) p.edition) (is_there p (source_of p q)) (readable p b (source_of p q)) _ e
-    where
-      go : (s t u : Bool) (x : Value) → u ≡ false → unset ≡ (choose s (choose t (choose u (given x) (refusal 29)) (refusal 26)) (refusal 26)).value
-      go false t u x f = refl
-      go true false u x f = refl
-      go true true u x f = rw f refl
 
 -- ---- a resource record
 width_width : (e k s : ℕ) → e ≤ k → resource_width e (resource_width k s) ≡ resource_width e s
@@ -165,20 +155,24 @@ module _ (p : SectionPlaces) (b : List ℕ) (i : ℕ) where
   abbrev pub resource_bytes : List ℕ
   resource_bytes = take resource_length (drop resource_place b)
 
-  pub no_resource : p.resource_count ≤ i → refused_resource 26 0 ≡ resource_by p b i
-  unfolding resource_by shown_by source_of is_there
+  pub no_resource : p.resource_count ≤ i → refused_with 26 0 ≡ resource_by p b i
+  unfolding resource_by source_of is_there
   no_resource h =
-      let missing : (f : ℕ) → answered_by p b (resource_field i f) ≡ refusal 26 =
-      λ f. not_there p b (resource_field i f) (rw (le-ltb i p.resource_count h)) in
-      λ j. record { verdict = (sym (missing 0) j).verdict; resource = resource_of (λ f. field_of (sym (missing f) j).value) }
+      let missing : answered_by p b (resource_field i 0) ≡ refusal 26 = not_there p b (resource_field i 0) (rw (le-ltb i p.resource_count h)) in
+      refuses _ _ refl (ap (λ (a : Answer). a.verdict) (sym missing))
 
   module _ (l : i < p.resource_count) where
-    pub resource_outside : leb (resource_place + resource_length) (length b) ≡ false → refused_resource 29 0 ≡ resource_by p b i
-    unfolding resource_by source_of is_there readable
-    resource_outside t =
-        let verdict : answered_by p b (resource_field i 0) ≡ refusal 29 =
-        outside p b (resource_field i 0) (omega arith) (rw (lt-ltb i p.resource_count l)) t in
-        λ j. record { verdict = (sym (verdict) j).verdict; resource = resource_of (λ f. field_of (hidden p b (resource_field i f) t j)) }
+    resource_verdict : (answered_by p b (resource_field i 0)).verdict ≡ check (leb (resource_place + resource_length) (length b)) 29 0
+    unfolding answered_by answered_from source_of is_there readable check
+    resource_verdict = rw (le-leb 0 p.edition (omega arith), lt-ltb i p.resource_count l) (go (leb (resource_place + resource_length) (length b)) _)
+      where
+        go : (t : Bool) (x : Value) → (choose t (given x) (refusal 29)).verdict ≡ check t 29 0
+        go true x = refl
+        go false x = refl
+
+    pub resource_is : under (check (leb (resource_place + resource_length) (length b)) 29 0) (resource_of (λ f. field_of (shown_by p b (resource_field i f)))) ≡ resource_by p b i
+    unfolding resource_by
+    resource_is = ap (λ v. under v (resource_of (λ f. field_of (shown_by p b (resource_field i f))))) (sym resource_verdict)
 
     module _ (t : leb (resource_place + resource_length) (length b) ≡ true) where
       fits : resource_place + resource_length ≤ length b
@@ -234,15 +228,13 @@ module _ (p : SectionPlaces) (b : List ℕ) (i : ℕ) where
                 ∙ tested (ltb f 6 && leb (f * 4 + 4) we) (number (u32_at row (f * 4)))
             go false g k = ap (λ (a : Answer). a.value) (too_early p b (resource_field i f) (k refl))
 
-      pub resource_read : (x : ResourceRecord) → x ≡ resource_of (resource_shown p.edition resource_bytes)
-          → ◌≡◌ {A = ResourceAnswer} (record { verdict = Accepted; resource = x }) (resource_by p b i)
-      unfolding resource_by source_of is_there readable
+      pub resource_read : (x : ResourceRecord) → x ≡ resource_of (resource_shown p.edition resource_bytes) → Ok x ≡ resource_by p b i
+      unfolding resource_by
       resource_read x h =
-          let verdict = reads p b (resource_field i 0) (omega arith) (rw (lt-ltb i p.resource_count l)) t in
           let field : (f : ℕ) → resource_shown p.edition resource_bytes f ≡ field_of (shown_by p b (resource_field i f)) =
           λ f. bytes_shown f ∙ sym (ap field_of (record_shown f)) in
-          (λ j. record { verdict = Accepted; resource = h j })
-          ∙ (λ j. record { verdict = (sym (verdict) j).verdict; resource = resource_of (λ f. field f j) })
+          let same : x ≡ resource_of (λ f. field_of (shown_by p b (resource_field i f))) = h ∙ (λ j. resource_of (λ f. field f j)) in
+          ap Ok same ∙ accepts _ _ (sym (resource_verdict ∙ checked _ 29 0 t))
 
 -- ---- an element record
 module _ (p : SectionPlaces) (b : List ℕ) (i : ℕ) where
@@ -252,21 +244,60 @@ module _ (p : SectionPlaces) (b : List ℕ) (i : ℕ) where
   abbrev pub element_bytes : List ℕ
   element_bytes = take 16 (drop element_place b)
 
-  -- no element is there at edition read 0, or past the last
-  pub no_element_answer : (q : Question) → needs q ≡ 1 → (p.element_count ≤ i → is_there p (source_of p q) ≡ false)
-      → (p.edition < 1) ⊎ (p.element_count ≤ i) → answered_by p b q ≡ refusal 26
-  no_element_answer q n f h = ⊎_elim (λ e. too_early p b q (rw n e)) (λ e. not_there p b q (f e)) h
+  -- the verdict of element i, which is that of its first field
+  abbrev pub element_verdict : Verdict
+  element_verdict = (answered_by p b (element_field i 0)).verdict
 
-  pub no_element_lem : (p.edition < 1) ⊎ (p.element_count ≤ i) → refused_element 26 0 ≡ element_by p b i
-  unfolding element_by shown_by source_of is_there
-  no_element_lem h =
-      let missing : (f : ℕ) → answered_by p b (element_field i f) ≡ refusal 26 =
-      λ f. no_element_answer (element_field i f) refl (λ e. rw (le-ltb i p.element_count e)) h in
-      λ j. record { verdict = (sym (missing 0) j).verdict; element = element_of (λ f. field_of (sym (missing f) j).value) }
+  -- an answer by the edition, by whether the element is there, by whether its record can be read, and by what else is needed
+  abbrev by_tests : Bool → Bool → Bool → Value → Answer
+  by_tests s t u x = choose s (choose t (choose u (given x) (refusal 29)) (refusal 26)) (refusal 26)
+
+  -- no element is there at edition read 0, or past the last
+  pub no_element : (p.edition < 1) ⊎ (p.element_count ≤ i) → Refused 26 0 ≡ element_verdict
+  unfolding source_of is_there
+  no_element h =
+      ap (λ (a : Answer). a.verdict)
+      (sym (⊎_elim (λ e. too_early p b (element_field i 0) e) (λ e. not_there p b (element_field i 0) (rw (le-ltb i p.element_count e))) h))
+
+  -- a question about what the element's record refers to is refused with what the element is
+  pub element_refuses : (q : Question) → needs q ≡ 1 → (r o : Bool) → is_there p (source_of p q) ≡ ltb i p.element_count
+      → readable p b (source_of p q) ≡ (leb (element_place + 16) (length b) && r && o)
+      → {n m : ℕ} → element_verdict ≡ Refused n m → answered_by p b q ≡ record { verdict = Refused n m; value = unset }
+  unfolding answered_by answered_from source_of is_there readable
+  element_refuses q e r o f g h = rw (e, f, g) (go (leb 1 p.edition) (ltb i p.element_count) (leb (element_place + 16) (length b)) _ _ h)
+    where
+      go : (s t u : Bool) (x y : Value) {n m : ℕ} → (by_tests s (t && true) u x).verdict ≡ Refused n m
+          → by_tests s t (u && r && o) y ≡ record { verdict = Refused n m; value = unset }
+      go false t u x y k = λ j. record { verdict = k j; value = unset }
+      go true false u x y k = λ j. record { verdict = k j; value = unset }
+      go true true false x y k = λ j. record { verdict = k j; value = unset }
+      go true true true x y k = absurd (let z : ◌≡◌ {A = ℕ} 0 1 = cc in omega arith)
+
+  -- one that is accepted
+  pub element_accepted : element_verdict ≡ Accepted → (1 ≤ p.edition) × (i < p.element_count) × (leb (element_place + 16) (length b) ≡ true)
+  unfolding answered_by answered_from source_of is_there readable
+  element_accepted h =
+      let (s, t, u) = go (leb 1 p.edition) (ltb i p.element_count) (leb (element_place + 16) (length b)) _ h in
+      (leb-true 1 p.edition s, ltb-true i p.element_count t, u)
+    where
+      go : (s t u : Bool) (x : Value) → (by_tests s (t && true) u x).verdict ≡ Accepted → (s ≡ true) × (t ≡ true) × (u ≡ true)
+      go true true true x k = (refl, refl, refl)
+      go true true false x k = absurd (let z : ◌≡◌ {A = ℕ} 0 1 = cc in omega arith)
+      go true false u x k = absurd (let z : ◌≡◌ {A = ℕ} 0 1 = cc in omega arith)
+      go false t u x k = absurd (let z : ◌≡◌ {A = ℕ} 0 1 = cc in omega arith)
 
   module _ (one : 1 ≤ p.edition) (l : i < p.element_count) where
     pub there : ltb i p.element_count ≡ true
     there = lt-ltb i p.element_count l
+
+    -- the verdict of one that is there
+    pub element_fits : element_verdict ≡ check (leb (element_place + 16) (length b)) 29 0
+    unfolding answered_by answered_from source_of is_there readable check
+    element_fits = go (leb 1 p.edition) (ltb i p.element_count) (leb (element_place + 16) (length b)) _ (le-leb 1 p.edition one) there
+      where
+        go : (s t u : Bool) (x : Value) → s ≡ true → t ≡ true → (by_tests s (t && true) u x).verdict ≡ check u 29 0
+        go s t true x e f = rw (e, f)
+        go s t false x e f = rw (e, f)
 
     -- what is shown of element i, where there is one
     pub of_element_lem : (x : Value) → set_if (ltb i (length (seen_by p b 1).body.elements)) x ≡ x
@@ -277,26 +308,18 @@ module _ (p : SectionPlaces) (b : List ℕ) (i : ℕ) where
     unfolding seen_by
     row_is = element_row p b i l
 
-    pub element_outside : leb (element_place + 16) (length b) ≡ false → refused_element 29 0 ≡ element_by p b i
-    unfolding element_by source_of is_there readable
-    element_outside t =
-        let verdict : answered_by p b (element_field i 0) ≡ refusal 29 = outside p b (element_field i 0) one (rw there) t in
-        λ j. record { verdict = (sym (verdict) j).verdict; element = element_of (λ f. field_of (hidden p b (element_field i f) t j)) }
-
-    pub element_read : (x : ElementRecord) → leb (element_place + 16) (length b) ≡ true → x ≡ element_of (element_shown element_bytes)
-        → ◌≡◌ {A = ElementAnswer} (record { verdict = Accepted; element = x }) (element_by p b i)
+    pub element_read : (x : ElementRecord) → leb (element_place + 16) (length b) ≡ true → x ≡ element_of (element_shown element_bytes) → Ok x ≡ element_by p b i
     unfolding element_by shown_by element_shown source_of is_there readable value_by value
     element_read x t h =
         let tested : (u : Bool) (n : ℕ) → (choose u (choose true (given (set_if u (number n))) (refusal 29)) (refusal 26)).value ≡ set_if u (number n) = tested_field in
-        let verdict = reads p b (element_field i 0) one (rw there) t in
         let field : (f : ℕ) → (answered_by p b (element_field i f)).value ≡ set_if (ltb f 13) (number (get_or (element_fields element_bytes) f 0)) =
         λ f.
         ap (λ (a : Answer). a.value)
         (answered_as p b (element_field i f) (ltb f 13) true _ one (rw there) t
         (of_element_lem _ ∙ ap (λ r. set_if (ltb f 13) (number (get_or (element_fields r) f 0))) row_is))
         ∙ tested (ltb f 13) _ in
-        (λ j. record { verdict = Accepted; element = h j })
-        ∙ (λ j. record { verdict = (sym (verdict) j).verdict; element = element_of (λ f. field_of (sym (field f) j)) })
+        let same : x ≡ element_of (λ f. field_of (shown_by p b (element_field i f))) = h ∙ (λ j. element_of (λ f. field_of (sym (field f) j))) in
+        ap Ok same ∙ accepts _ _ (sym (element_fits ∙ checked _ 29 0 t))
       where
         tested_field : (u : Bool) (n : ℕ) → (choose u (choose true (given (set_if u (number n))) (refusal 29)) (refusal 26)).value ≡ set_if u (number n)
         tested_field true n = refl

@@ -12,7 +12,7 @@ use borrow.Author.Tests.{leb-true, leb-false}
 use Rattle.constants.specs.Edition.{size_of}
 use Rattle.wire.specs.Choice.{choose}
 use Rattle.wire.specs.Number.{u32_at}
-use Rattle.wire.specs.declared.Verdict.TheVariants.{Accepted}
+use Rattle.wire.specs.Verdict.{Accepted}
 use Rattle.psv0_layout.specs.Field.{element_total, mask_bytes_of}
 use Rattle.psv0_layout.specs.Judged.{head_judged, body_fits, opened}
 use Rattle.psv0_layout.specs.Layout.{guide_of, after2, sections, seen, body_of, edition_read_of}

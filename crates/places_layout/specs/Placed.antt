@@ -1,12 +1,11 @@
 -- The record that an opening hands back (document 02, Ask 11): "a record of the places and sizes of the sections and of what decides 26 and list
 -- lengths". Numbers only.
-use Rattle.std.specs.Prelude.{List, ℕ, ◌+◌, ◌%◌, leb, replicate}
+use Rattle.std.specs.Prelude.{List, Result, ℕ, ◌+◌, ◌%◌, leb, replicate}
 use Rattle.constants.specs.Edition.{file_edition_of}
 use Rattle.wire.specs.Choice.{choose}
 use Rattle.wire.specs.Number.{u32_at}
-use Rattle.wire.specs.declared.Verdict.{Verdict}
-use Rattle.wire.specs.declared.Verdict.TheVariants.{Accepted, Refused}
-use Rattle.psv0_layout.specs.Answers.{number_beside}
+use Rattle.wire.specs.Verdict.{under}
+use Rattle.wire.specs.declared.Refusal.{Refusal}
 use Rattle.psv0_layout.specs.Field.{stage, element_total, mask_words_of}
 use Rattle.psv0_layout.specs.Judged.{opened}
 use Rattle.psv0_layout.specs.Layout.{guide_of, edition_read_of}
@@ -35,7 +34,7 @@ head_only runtime at n s =
       mask_words = replicate 11 0;
     }
 
--- what a refusal hands back
+-- no places: zeros, as the C interface hands back beside a refusal
 abbrev pub no_places : SectionPlaces
 no_places = head_only 0 0 0 0
 
@@ -93,16 +92,7 @@ moved_by o p =
       mask_words = p.mask_words;
     }
 
--- a record that stands beside a verdict: zeros beside a refusal
-abbrev pub places_beside : Verdict → SectionPlaces → SectionPlaces
-places_beside Accepted p = p
-places_beside (Refused n q) p = no_places
-
--- an opening of PSV0 data alone at edition k, with its record: the data start at 0
-unfoldable pub opened_places : ℕ → List ℕ → PlacesAnswer
+-- what an opening of PSV0 data alone at edition k answers, with its record: the data start at 0
+unfoldable pub opened_places : ℕ → List ℕ → Result PlacesAnswer Refusal
 opened_places k d =
-    record {
-      verdict = opened k d;
-      file_edition = number_beside (opened k d) (file_edition_of (u32_at d 0));
-      places = places_beside (opened k d) (places_at 0 (edition_read_of k d) d);
-    }
+    under (opened k d) (record { file_edition = file_edition_of (u32_at d 0); places = places_at 0 (edition_read_of k d) d })

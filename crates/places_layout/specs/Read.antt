@@ -5,8 +5,7 @@ use Rattle.std.specs.Prelude.{Bool, true, ◌&&◌, List, [], ℕ, ◌+◌, ◌*
 use Rattle.constants.specs.Edition.{size_of}
 use Rattle.wire.specs.Choice.{choose}
 use Rattle.wire.specs.Number.{u32_at}
-use Rattle.wire.specs.declared.Verdict.{Verdict}
-use Rattle.wire.specs.declared.Verdict.TheVariants.{Accepted, Refused}
+use Rattle.wire.specs.Verdict.{Verdict, Accepted, Refused}
 use Rattle.psv0_layout.specs.Field.{vertex_count, vertex_stage, patch_byte, patch_stage, topology, mesh_stage, thread_count, thread_stage, sum, name_offset_of, index_reference_of, row_count}
 use Rattle.psv0_layout.specs.Layout.{rows, Body, Seen, no_body, resource_width}
 use Rattle.psv0_layout.specs.Reference.{string_good, index_good}

@@ -2,13 +2,11 @@
 // reading is a crate of its own.
 #![tactic(auto)]
 
-use wire::Verdict;
-
 // What an opening keeps of PSV0 data: the edition read, of each section the place of its first byte after its counts and sizes, its count, its
 // record size; of the masks the words of each; and the stage. Places count from the first byte that was opened, the container's or the data's.
 // Plain data that a caller may keep. At edition read 0 the stage and sections 3 to 6 have zeros.
 #[repr(C)]
-#[derive(Clone, Copy)]
+#[derive(Clone, Copy, Default)]
 pub struct SectionPlaces {
     pub edition: u32,
     pub runtime: u32,
@@ -27,10 +25,9 @@ pub struct SectionPlaces {
     pub stage: u32,
 }
 
-// An opening of PSV0 data with its places: the verdict, the file's edition and the places. A refusal has zeros.
+// What an opening of PSV0 data with its places tells: the file's edition and the places.
 #[derive(Clone, Copy)]
 pub struct PlacesAnswer {
-    pub verdict: Verdict,
     pub file_edition: usize,
     pub places: SectionPlaces,
 }

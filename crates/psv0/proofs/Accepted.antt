@@ -15,7 +15,7 @@ use Rattle.psv0_layout.proofs.Opened.{length_most, head_accepted, edition_asked,
 use Rattle.psv0_layout.proofs.Wholes.{head_whole, body_whole}
 use Rattle.psv0_sections.specs.Places.{head_places, places_of, Placed, HeadPlaced, BodyPlaced}
 use Rattle.psv0_sections.specs.declared.Places.{Places}
-use Rattle.psv0_sections.proofs.Opening.{verdict_is, placed}
+use Rattle.psv0_sections.proofs.Opening.{placed}
 use Rattle.psv0.specs.Reading.{Reading}
 
 stride_small : {t : Records} → WholeRecords t → t.stride < 4294967296
@@ -24,7 +24,7 @@ stride_small (some n s b four least small e) = small
 
 module _ {d : List ℕ} {p : Places} (g : Reading d p) where
   found : Placed (edition_read_of g.edition d) d (places_of (edition_read_of g.edition d) d)
-  found = placed g.edition d (verdict_is g.edition d ∙ g.accepted)
+  found = placed g.edition d g.accepted
 
   pub edition_is : p.edition ≡ edition_read_of g.edition d
   edition_is = ap (λ x. x.edition) g.places ∙ found.edition

@@ -1,31 +1,27 @@
 -- An opening and then a query by its places: what is answered beside each verdict.
 -- Assumes nothing.
-use mathlib.Core.Path.{◌≡◌, sym, ap, ap₂, ◌∙◌}
+use Rattle.std.specs.Prelude.{None, Result, Ok, Err, IsErr, IsErrAnd}
+use mathlib.Core.Path.{◌≡◌, refl, sym, ap, ap₂, ◌∙◌}
 use mathlib.Core.List.{List}
 use Prim.Native.Nat.{ℕ}
 use Rattle.constants.specs.Edition.{file_edition_of}
 use Rattle.wire.specs.Number.{u32_at}
-use Rattle.wire.specs.Verdict.{◌then◌}
-use Rattle.wire.specs.declared.Verdict.TheVariants.{Accepted, Refused}
+use Rattle.wire.specs.Verdict.{◌then◌, under, Accepted, Refused}
+use Rattle.wire.specs.declared.Refusal.{Refusal}
+use Rattle.wire.proofs.Verdicts.{refuses, accepts, refused_by, accepted_by, value_by}
+use Rattle.psv0_layout.specs.Answers.{opening_of, info_answer_of, resource_answer_of, element_answer_of, lengths_answer_of, lengths_of, question_of, points_of, section_of, bytes_of, bytes_beside, SpanShows}
 use Rattle.psv0_layout.specs.Handed.{handed}
 use Rattle.psv0_layout.specs.Judged.{opened}
 use Rattle.psv0_layout.specs.Layout.{edition_read_of}
-use Rattle.psv0_layout.specs.Shown.{unset, Question, shown, queried, answered}
-use Rattle.psv0_sections.specs.Places.{located_of}
-use Rattle.psv0_sections.specs.declared.Located.{Located}
-use Rattle.psv0_layout.specs.Answers.{refused_info, refused_resource, refused_element, refused_lengths, refused_span, number_beside, opening_of, info_answer_of, resource_answer_of, element_answer_of, lengths_answer_of, question_of, points_of, section_of, bytes_of, bytes_beside, SpanShows}
-use Rattle.psv0_layout.specs.declared.ElementAnswer.{ElementAnswer}
-use Rattle.psv0_layout.specs.declared.InfoAnswer.{InfoAnswer}
-use Rattle.psv0_layout.specs.declared.LengthsAnswer.{LengthsAnswer}
-use Rattle.psv0_layout.specs.declared.Opening.{Opening}
-use Rattle.psv0_layout.specs.declared.Points.{Points}
-use Rattle.psv0_layout.specs.declared.ResourceAnswer.{ResourceAnswer}
+use Rattle.psv0_layout.specs.Shown.{Value, unset, Question, shown, queried, answered}
 use Rattle.psv0_layout.specs.declared.Section.{Section}
 use Rattle.psv0_layout.specs.declared.Span.{Span}
 use Rattle.psv0_layout.specs.declared.View.{View}
-use Rattle.psv0_layout.proofs.Spans.{refused_shows, no_points}
+use Rattle.psv0_layout.proofs.Spans.{passed_err, nothing_shows, no_points}
+use Rattle.psv0_sections.specs.Places.{located_of}
+use Rattle.psv0_sections.specs.declared.Places.{Places}
 use Rattle.places_layout.specs.Answers.{info_by, resource_by, element_by, lengths_by, ViewBy, SectionBy}
-use Rattle.places_layout.specs.Placed.{places_at, no_places, places_beside, opened_places}
+use Rattle.places_layout.specs.Placed.{places_at, opened_places}
 use Rattle.places_layout.specs.declared.PlacesAnswer.{PlacesAnswer}
 use Rattle.places_layout.specs.declared.SectionPlaces.{SectionPlaces}
 use Rattle.places_layout.proofs.Fresh.{info_fresh, resource_fresh, element_fresh, lengths_fresh, view_fresh, section_fresh}
@@ -33,72 +29,45 @@ use Rattle.places_layout.proofs.Placing.{alone}
 use Rattle.psv0.specs.Reading.{Reading}
 use Rattle.psv0.proofs.Accepted.{head, edition_is}
 
--- ---- the opening, by the places that were found
-module _ (k : ℕ) (d : List ℕ) (l : Located) (e : l ≡ located_of k d) where
-  located_is : l.verdict ≡ opened k d
+-- ---- the opening, by the places p that were found
+module _ (k : ℕ) (d : List ℕ) {w : Result Places Refusal} (e : w ≡ located_of k d) {p : Places} (a : w ≡ Ok p) where
+  opens : opened k d ≡ Accepted
   unfolding located_of
-  located_is = ap (λ x. x.verdict) e
+  opens = accepted_by _ _ e a
 
-  module _ (a : l.verdict ≡ Accepted) where
-    opens : opened k d ≡ Accepted
-    opens = sym located_is ∙ a
+  pub reading : Reading d p
+  unfolding located_of
+  reading = record { edition = k; accepted = opens; places = value_by _ _ e a }
 
-    pub reading : Reading d l.places
-    unfolding located_of
-    reading = record { edition = k; accepted = opens; places = ap (λ x. x.places) e ∙ rw opens }
+  read_at : p.edition ≡ edition_read_of k d
+  unfolding reading
+  read_at = edition_is reading
 
-    read_at : l.places.edition ≡ edition_read_of k d
-    unfolding reading
-    read_at = edition_is reading
+  file_is : (f : ℕ) → f ≡ file_edition_of p.size → f ≡ file_edition_of (u32_at d 0)
+  file_is f q = rw (q, (head reading).size)
 
-    file_is : (f : ℕ) → f ≡ file_edition_of l.places.size → f ≡ number_beside (opened k d) (file_edition_of (u32_at d 0))
-    file_is f q = rw (opens, q, (head reading).size)
+  pub opening_accepted : (f : ℕ) → f ≡ file_edition_of p.size
+      → Ok (record { file_edition = f; edition_read = p.edition }) ≡ opening_of (opened k d) (file_edition_of (u32_at d 0)) (edition_read_of k d)
+  opening_accepted f q = (λ i. Ok (record { file_edition = file_is f q i; edition_read = read_at i })) ∙ accepts _ _ (sym opens)
 
-    pub opening_accepted : (f : ℕ) → f ≡ file_edition_of l.places.size
-        → ◌≡◌ {A = Opening} (record { verdict = Accepted; file_edition = f; edition_read = l.places.edition })
-        (opening_of (opened k d) (file_edition_of (u32_at d 0)) (edition_read_of k d))
-    opening_accepted f q =
-        let file = file_is f q in
-        let read : l.places.edition ≡ number_beside (opened k d) (edition_read_of k d) = rw opens read_at in
-        let v = sym opens in
-        λ i. record { verdict = v i; file_edition = file i; edition_read = read i }
-
-    pub places_accepted : (f : ℕ) (p : SectionPlaces) → f ≡ file_edition_of l.places.size → p ≡ places_at 0 l.places.edition d
-        → ◌≡◌ {A = PlacesAnswer} (record { verdict = Accepted; file_edition = f; places = p }) (opened_places k d)
-    unfolding opened_places
-    places_accepted f p q h =
-        let file = file_is f q in
-        let places : p ≡ places_beside (opened k d) (places_at 0 (edition_read_of k d) d) = h ∙ rw (opens, read_at) in
-        let v = sym opens in
-        λ i. record { verdict = v i; file_edition = file i; places = places i }
-
-  module _ (n p : ℕ) (r : l.verdict ≡ Refused n p) where
-    stays_shut : opened k d ≡ Refused n p
-    stays_shut = sym located_is ∙ r
-
-    pub opening_refused : ◌≡◌ {A = Opening} (record { verdict = Refused n p; file_edition = 0; edition_read = 0 })
-        (opening_of (opened k d) (file_edition_of (u32_at d 0)) (edition_read_of k d))
-    opening_refused = rw stays_shut
-
-    pub places_refused : (x : SectionPlaces) → x ≡ no_places
-        → ◌≡◌ {A = PlacesAnswer} (record { verdict = Refused n p; file_edition = 0; places = x }) (opened_places k d)
-    unfolding opened_places
-    places_refused x h = rw (stays_shut, h)
+  pub places_accepted : (f : ℕ) (s : SectionPlaces) → f ≡ file_edition_of p.size → s ≡ places_at 0 p.edition d
+      → Ok (record { file_edition = f; places = s }) ≡ opened_places k d
+  unfolding opened_places
+  places_accepted f s q h =
+      let places : s ≡ places_at 0 (edition_read_of k d) d = h ∙ rw read_at in
+      (λ i. Ok (record { file_edition = file_is f q i; places = places i })) ∙ accepts _ _ (sym opens)
 
 -- ---- a query after an opening with places
-module _ (k : ℕ) (d : List ℕ) (a : PlacesAnswer) (e : a ≡ opened_places k d) where
-  verdict_is : a.verdict ≡ opened k d
-  unfolding opened_places
-  verdict_is = ap (λ x. x.verdict) e
-
+module _ (k : ℕ) (d : List ℕ) {w : Result PlacesAnswer Refusal} (e : w ≡ opened_places k d) where
   -- an opening that accepts
-  module _ (v : a.verdict ≡ Accepted) where
+  module _ {a : PlacesAnswer} (v : w ≡ Ok a) where
     accepted : opened k d ≡ Accepted
-    accepted = sym verdict_is ∙ v
+    unfolding opened_places
+    accepted = accepted_by _ _ e v
 
     places_are : a.places ≡ places_at 0 (edition_read_of k d) d
     unfolding opened_places
-    places_are = ap (λ x. x.places) e ∙ rw accepted
+    places_are = ap (λ (x : PlacesAnswer). x.places) (value_by _ _ e v)
 
     shown_is : shown k d ≡ answered k d
     unfolding answered
@@ -110,8 +79,9 @@ module _ (k : ℕ) (d : List ℕ) (a : PlacesAnswer) (e : a ≡ opened_places k 
     pub info_accepted : info_by a.places d ≡ info_answer_of (opened k d) (answered k d)
     info_accepted = rw places_are (info_fresh (alone d) k accepted ∙ ap₂ info_answer_of (sym accepted) shown_is)
 
-    pub lengths_accepted : lengths_by a.places d ≡ lengths_answer_of (opened k d) (answered k d)
-    lengths_accepted = rw places_are (lengths_fresh (alone d) k accepted ∙ ap₂ lengths_answer_of (sym accepted) shown_is)
+    pub lengths_accepted : Ok (lengths_by a.places d) ≡ lengths_answer_of (opened k d) (answered k d)
+    unfolding lengths_answer_of
+    lengths_accepted = rw places_are (ap Ok (lengths_fresh (alone d) k accepted ∙ ap lengths_of shown_is) ∙ accepts _ _ (sym accepted))
 
     pub resource_accepted : (i : ℕ) → resource_by a.places d i ≡ resource_answer_of (opened k d) (answered k d) i
     resource_accepted i = rw places_are (resource_fresh (alone d) k accepted i ∙ ap₂ (λ o x. resource_answer_of o x i) (sym accepted) shown_is)
@@ -119,47 +89,41 @@ module _ (k : ℕ) (d : List ℕ) (a : PlacesAnswer) (e : a ≡ opened_places k 
     pub element_accepted : (i : ℕ) → element_by a.places d i ≡ element_answer_of (opened k d) (answered k d) i
     element_accepted i = rw places_are (element_fresh (alone d) k accepted i ∙ ap₂ (λ o x. element_answer_of o x i) (sym accepted) shown_is)
 
-    pub span_accepted : (v : View) (s : Span) → ViewBy a.places d v s
+    pub span_accepted : (v : View) (s : Result Span Refusal) → ViewBy a.places d v s
         → SpanShows d (queried (opened k d) (answered k d (question_of v))) (bytes_of (answered k d (question_of v))) (points_of v (answered k d)) s
     span_accepted v s h = rw (← shown_is, accepted) (view_fresh (alone d) k accepted v s (rw places_are at h))
 
-    pub section_accepted : (t : Section) (s : Span) → SectionBy a.places d t s
-        → SpanShows d (opened k d) (bytes_beside (opened k d) (handed (edition_read_of k d) d (section_of t))) Points.Unset s
+    pub section_accepted : (t : Section) (s : Result Span Refusal) → SectionBy a.places d t s
+        → SpanShows d (opened k d) (bytes_beside (opened k d) (handed (edition_read_of k d) d (section_of t))) None s
     section_accepted t s h = rw accepted (section_fresh (alone d) k accepted t s (rw places_are at h))
 
   -- an opening that refuses
-  module _ (n p : ℕ) (r : a.verdict ≡ Refused n p) where
-    refuses : opened k d ≡ Refused n p
-    refuses = sym verdict_is ∙ r
+  module _ {r : Refusal} (v : w ≡ Err r) where
+    shut : opened k d ≡ Refused r.number r.place
+    unfolding opened_places
+    shut = refused_by _ _ e v
 
     hidden : (λ q. unset) ≡ answered k d
     unfolding answered
     hidden = λ i q. hides q i
       where
         hides : (q : Question) → unset ≡ answered k d q
-        hides q = rw refuses
+        hides q = rw shut
 
-    pub info_refused : (x : InfoAnswer) → x ≡ refused_info n p → x ≡ info_answer_of (opened k d) (answered k d)
-    unfolding info_answer_of
-    info_refused x h = h ∙ ap₂ info_answer_of (sym refuses) hidden
+    -- and what `?` then returns
+    module _ {B : Type 0} {q : Result B Refusal} (h : IsErr q × IsErrAnd q (λ (s : Refusal). s ≡ r)) where
+      pub opening_refused : (y : B) → q ≡ under (opened k d) y
+      opening_refused y = refuses _ _ (passed_err q h) (sym shut)
 
-    pub lengths_refused : (x : LengthsAnswer) → x ≡ refused_lengths n p → x ≡ lengths_answer_of (opened k d) (answered k d)
-    unfolding lengths_answer_of
-    lengths_refused x h = h ∙ ap₂ lengths_answer_of (sym refuses) hidden
+      pub query_refused : (x : Value) (y : B) → q ≡ under (queried (opened k d) x) y
+      unfolding queried ◌then◌
+      query_refused x y = refuses _ _ (passed_err q h) (rw shut)
 
-    pub resource_refused : (i : ℕ) (x : ResourceAnswer) → x ≡ refused_resource n p → x ≡ resource_answer_of (opened k d) (answered k d) i
-    unfolding resource_answer_of queried ◌then◌
-    resource_refused i x h = h ∙ ap₂ (λ o x. resource_answer_of o x i) (sym refuses) hidden
+    module _ {s : Result Span Refusal} (h : IsErr s × IsErrAnd s (λ (y : Refusal). y ≡ r)) where
+      pub span_refused : (t : View)
+          → SpanShows d (queried (opened k d) (answered k d (question_of t))) (bytes_of (answered k d (question_of t))) (points_of t (answered k d)) s
+      unfolding queried ◌then◌
+      span_refused t = rw (← hidden, shut, no_points t) (nothing_shows d (passed_err s h) refl)
 
-    pub element_refused : (i : ℕ) (x : ElementAnswer) → x ≡ refused_element n p → x ≡ element_answer_of (opened k d) (answered k d) i
-    unfolding element_answer_of queried ◌then◌
-    element_refused i x h = h ∙ ap₂ (λ o x. element_answer_of o x i) (sym refuses) hidden
-
-    pub span_refused : (v : View) (s : Span) → s ≡ refused_span n p
-        → SpanShows d (queried (opened k d) (answered k d (question_of v))) (bytes_of (answered k d (question_of v))) (points_of v (answered k d)) s
-    unfolding queried ◌then◌
-    span_refused v s h = rw (h, ← hidden, refuses, no_points v) (refused_shows d n p)
-
-    pub section_refused : (t : Section) (s : Span) → s ≡ refused_span n p
-        → SpanShows d (opened k d) (bytes_beside (opened k d) (handed (edition_read_of k d) d (section_of t))) Points.Unset s
-    section_refused t s h = rw (h, refuses) (refused_shows d n p)
+      pub section_refused : (t : Section) → SpanShows d (opened k d) (bytes_beside (opened k d) (handed (edition_read_of k d) d (section_of t))) None s
+      section_refused t = rw shut (nothing_shows d (passed_err s h) refl)

@@ -1,6 +1,6 @@
 -- A reading that accepts, as the private function takes it: the places of its sections.
 use Rattle.std.specs.Prelude.{◌≡◌, List, ℕ}
-use Rattle.wire.specs.declared.Verdict.TheVariants.{Accepted}
+use Rattle.wire.specs.Verdict.{Accepted}
 use Rattle.psv0_layout.specs.Judged.{opened}
 use Rattle.psv0_layout.specs.Layout.{edition_read_of}
 use Rattle.psv0_sections.specs.Places.{places_of}

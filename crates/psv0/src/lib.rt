@@ -1,5 +1,5 @@
 // The reader of PSV0 data alone: the opening and the queries. Each gives what opening gives, 25, 2 and 12 to 24, then 26: an opening with the places of the
-// sections, and then a query by them. Beside a refusal every value is unset and every number zero.
+// sections, and then a query by them.
 #![tactic(auto)]
 
 ghost use Rattle.std.specs.Prelude.{◌≡◌, get_or};
@@ -16,10 +16,10 @@ ghost use Rattle.psv0.specs.Reading.{Reading};
 
 use places_layout::{PlacesAnswer, SectionPlaces};
 use psv0_layout::{
-    ElementAnswer, InfoAnswer, LengthsAnswer, Opening, Points, ResourceAnswer, Section, Span, View,
+    ElementRecord, ListLengths, Opening, ResourceRecord, RuntimeInfo, Section, Span, View,
 };
 use psv0_sections::Places;
-use wire::Verdict;
+use wire::Refusal;
 
 // ---- the places of accepted data, as a record
 
@@ -34,6 +34,8 @@ fn record_of(d: &[u8], p: Places) -> SectionPlaces
     requires { Reading d.now p }
     ensures { result ≡ places_at 0 p.edition d.now }
 {
+    // Stays: both records are written out. Tried and slower by half for a query that opens the data: `..places::none()`, and the words of the
+    // masks in a loop, where each mask's number is not known when compiled.
     if p.edition == 0 {
         return SectionPlaces {
             edition: 0,
@@ -88,143 +90,92 @@ fn record_of(d: &[u8], p: Places) -> SectionPlaces
 // ---- the public calls
 
 // Opens PSV0 data.
-pub fn open(d: &[u8], edition: usize) -> Opening
+pub fn open(d: &[u8], edition: usize) -> Result<Opening, Refusal>
     ensures { result ≡ opening_of (opened edition d.now) (file_edition_of (u32_at d.now 0)) (edition_read_of edition d.now) }
 {
-    let l = psv0_sections::locate(d, edition);
-    let v = l.verdict;
-    match v {
-        Verdict::Refused(n, place) => Opening {
-            verdict: Verdict::Refused(n, place),
-            file_edition: 0,
-            edition_read: 0,
-        },
-        Verdict::Accepted => {
-            let p = l.places;
-            Opening {
-                verdict: Verdict::Accepted,
-                file_edition: constants::edition_of(p.size),
-                edition_read: p.edition,
-            }
-        }
-    }
+    let p = psv0_sections::locate(d, edition)?;
+    Ok(Opening {
+        file_edition: constants::edition_of(p.size),
+        edition_read: p.edition,
+    })
 }
 
 // Opens PSV0 data, and hands back the places of its sections.
-pub fn open_places(d: &[u8], edition: usize) -> PlacesAnswer
+pub fn open_places(d: &[u8], edition: usize) -> Result<PlacesAnswer, Refusal>
     ensures { result ≡ opened_places edition d.now }
 {
-    let l = psv0_sections::locate(d, edition);
-    let v = l.verdict;
-    if let Verdict::Refused(n, place) = v {
-        return PlacesAnswer {
-            verdict: Verdict::Refused(n, place),
-            file_edition: 0,
-            places: places::none(),
-        };
-    }
-    let p = l.places;
-    PlacesAnswer {
-        verdict: Verdict::Accepted,
+    let p = psv0_sections::locate(d, edition)?;
+    Ok(PlacesAnswer {
         file_edition: constants::edition_of(p.size),
         places: record_of(d, p),
-    }
+    })
 }
 
 // The fields of the runtime record.
-pub fn runtime_info(d: &[u8], edition: usize) -> InfoAnswer
+pub fn runtime_info(d: &[u8], edition: usize) -> Result<RuntimeInfo, Refusal>
     ensures { result ≡ info_answer_of (opened edition d.now) (answered edition d.now) }
 {
-    let o = open_places(d, edition);
-    let v = o.verdict;
-    if let Verdict::Refused(n, place) = v {
-        return places::refused_info(n, place);
-    }
-    let p = o.places;
-    places::runtime_info(d, p)
+    let o = open_places(d, edition)?;
+    places::runtime_info(d, o.places)
 }
 
 // Resource record i.
-pub fn resource(d: &[u8], edition: usize, i: usize) -> ResourceAnswer
+pub fn resource(d: &[u8], edition: usize, i: usize) -> Result<ResourceRecord, Refusal>
     ensures { result ≡ resource_answer_of (opened edition d.now) (answered edition d.now) i }
 {
-    let o = open_places(d, edition);
-    let v = o.verdict;
-    if let Verdict::Refused(n, place) = v {
-        return places::refused_resource(n, place);
-    }
-    let p = o.places;
-    places::resource(d, p, i)
+    let o = open_places(d, edition)?;
+    places::resource(d, o.places, i)
 }
 
 // Element record i, numbered over all lists.
-pub fn element(d: &[u8], edition: usize, i: usize) -> ElementAnswer
+pub fn element(d: &[u8], edition: usize, i: usize) -> Result<ElementRecord, Refusal>
     ensures { result ≡ element_answer_of (opened edition d.now) (answered edition d.now) i }
 {
-    let o = open_places(d, edition);
-    let v = o.verdict;
-    if let Verdict::Refused(n, place) = v {
-        return places::refused_element(n, place);
-    }
-    let p = o.places;
-    places::element(d, p, i)
+    let o = open_places(d, edition)?;
+    places::element(d, o.places, i)
 }
 
 // The lists' lengths.
-pub fn lengths(d: &[u8], edition: usize) -> LengthsAnswer
+pub fn lengths(d: &[u8], edition: usize) -> Result<ListLengths, Refusal>
     ensures { result ≡ lengths_answer_of (opened edition d.now) (answered edition d.now) }
 {
-    let o = open_places(d, edition);
-    let v = o.verdict;
-    if let Verdict::Refused(n, place) = v {
-        return places::refused_lengths(n, place);
-    }
-    let p = o.places;
-    places::lengths(d, p)
+    let o = open_places(d, edition)?;
+    Ok(places::lengths(d, o.places))
 }
 
 // Where the bytes of a view lie, with the code points of a string.
-pub fn view_span(d: &[u8], edition: usize, view: View) -> Span
+pub fn view_span(d: &[u8], edition: usize, view: View) -> Result<Span, Refusal>
     ensures { SpanShows d.now (queried (opened edition d.now) (answered edition d.now (question_of view))) (bytes_of (answered edition d.now (question_of view))) (points_of view (answered edition d.now)) result }
 {
-    let o = open_places(d, edition);
-    let v = o.verdict;
-    if let Verdict::Refused(n, place) = v {
-        return places::refused_span(n, place);
-    }
-    let p = o.places;
-    places::view_span(d, p, view)
+    let o = open_places(d, edition)?;
+    places::view_span(d, o.places, view)
 }
 
 // The bytes of a view; none beside a refusal.
 pub fn view_bytes<'a>(d: &'a [u8], edition: usize, view: View) -> &'a [u8]
     ensures { result.now ≡ bytes_of (answered edition d.now (question_of view)) }
 {
-    let s = view_span(d, edition, view);
-    let start = s.start;
-    let end = start + s.len;
-    &d[start..end]
+    match view_span(d, edition, view) {
+        Ok(s) => &d[s.start..s.start + s.len],
+        Err(_) => &d[0..0],
+    }
 }
 
+// Stays: a view and a section are asked for by calls of their own (d): their clauses speak of two definitions, `question_of` and `section_of`.
 // Where the bytes lie that are handed out of a section.
-pub fn section_span(d: &[u8], edition: usize, section: Section) -> Span
-    ensures { SpanShows d.now (opened edition d.now) (bytes_beside (opened edition d.now) (handed (edition_read_of edition d.now) d.now (section_of section))) Points.Unset result }
+pub fn section_span(d: &[u8], edition: usize, section: Section) -> Result<Span, Refusal>
+    ensures { SpanShows d.now (opened edition d.now) (bytes_beside (opened edition d.now) (handed (edition_read_of edition d.now) d.now (section_of section))) None result }
 {
-    let o = open_places(d, edition);
-    let v = o.verdict;
-    if let Verdict::Refused(n, place) = v {
-        return places::refused_span(n, place);
-    }
-    let p = o.places;
-    places::section_span(d, p, section)
+    let o = open_places(d, edition)?;
+    places::section_span(d, o.places, section)
 }
 
 // The bytes that are handed out of a section; none beside a refusal.
 pub fn section_bytes<'a>(d: &'a [u8], edition: usize, section: Section) -> &'a [u8]
     ensures { result.now ≡ bytes_beside (opened edition d.now) (handed (edition_read_of edition d.now) d.now (section_of section)) }
 {
-    let s = section_span(d, edition, section);
-    let start = s.start;
-    let end = start + s.len;
-    &d[start..end]
+    match section_span(d, edition, section) {
+        Ok(s) => &d[s.start..s.start + s.len],
+        Err(_) => &d[0..0],
+    }
 }

@@ -3,7 +3,7 @@
 use Prim.Native.Nat.{ℕ, ◌≤◌}
 use mathlib.Core.Path.{◌≡◌}
 use mathlib.Core.List.{List}
-use Rattle.wire.specs.declared.Verdict.TheVariants.{Accepted, Refused}
+use Rattle.wire.specs.Verdict.{Accepted, Refused}
 use Rattle.wire.proofs.Verdicts.{refused_on, accepted_back}
 use Rattle.psv0_layout.specs.Judged.{opened}
 use Rattle.psv0_layout.specs.Shown.{unset, Question, answered}

@@ -11,7 +11,7 @@ use lib.ListN.{length, take, drop}
 use lib.Seq.{drop-drop}
 use borrow.Author.Tests.{leb-true}
 use Rattle.wire.specs.Number.{u32_at}
-use Rattle.wire.specs.declared.Verdict.TheVariants.{Accepted}
+use Rattle.wire.specs.Verdict.{Accepted}
 use Rattle.wire.proofs.Choices.{both}
 use Rattle.wire.proofs.Verdicts.{check_then, check_accepted}
 use Rattle.psv0_layout.specs.Field.{element_total, mask_bytes_of}

@@ -12,9 +12,7 @@ use lib.ListN.{length, get_or, take, drop}
 use borrow.Author.Tests.{eq-eqb, ne_eqb, lt-ltb, le-ltb, le-leb, lt-leb, ltb-true, ltb-false}
 use Rattle.wire.specs.Choice.{choose}
 use Rattle.wire.specs.Number.{u32_at}
-use Rattle.wire.specs.Verdict.{◌then◌, check, when, from, each}
-use Rattle.wire.specs.declared.Verdict.{Verdict}
-use Rattle.wire.specs.declared.Verdict.TheVariants.{Accepted, Refused}
+use Rattle.wire.specs.Verdict.{◌then◌, check, when, from, each, Verdict, Accepted, Refused}
 use Rattle.wire.proofs.Verdicts.{check_then, each_accepted}
 use Rattle.psv0_layout.specs.Field.{stage, uses_view_id_of, output_vectors, name_offset_of, index_reference_of, row_count}
 use Rattle.psv0_layout.specs.Judged.{fields_judged, element_judged, elements_judged}

@@ -11,8 +11,7 @@ use lib.Seq.{take_at, drop_at}
 use borrow.Author.Tests.{le-leb, eq-eqb}
 use Rattle.constants.specs.Edition.{size_of}
 use Rattle.wire.specs.Number.{u32_at, le32}
-use Rattle.wire.specs.Verdict.{◌then◌, check, from}
-use Rattle.wire.specs.declared.Verdict.TheVariants.{Accepted}
+use Rattle.wire.specs.Verdict.{◌then◌, check, from, Accepted}
 use Rattle.wire.proofs.Numbers.{le32_length, u32_le32}
 use Rattle.psv0_layout.specs.Field.{element_total, mask_bytes_of}
 use Rattle.psv0_layout.specs.Judged.{head_judged, fields_judged, body_fits, elements_judged, entry_judged, judged_at}

@@ -1,4 +1,3 @@
-pub mod Answered
 pub mod EditionOrder
 pub mod Editions
 pub mod Fields

@@ -8,7 +8,7 @@ use native.Mathlib.Nat.{add-zero, mul-div_cancel_left}
 use lib.ListN.{length, get_or, length-take, length-drop}
 use borrow.Author.Tests.{le-leb, lt-ltb}
 use Rattle.wire.specs.Number.{u32_at}
-use Rattle.wire.specs.declared.Verdict.TheVariants.{Accepted}
+use Rattle.wire.specs.Verdict.{Accepted}
 use Rattle.psv0_layout.specs.Field.{element_total}
 use Rattle.psv0_layout.specs.Handed.{string_table, element_records, handed}
 use Rattle.psv0_layout.specs.Judged.{opened}

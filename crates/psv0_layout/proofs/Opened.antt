@@ -12,8 +12,7 @@ use borrow.Author.Tests.{leb-true, eqb-true}
 use Rattle.constants.specs.Edition.{size_of, file_edition_of}
 use Rattle.constants.proofs.Editions.{size_mono, edition_fits}
 use Rattle.wire.specs.Number.{u32_at, Bytes}
-use Rattle.wire.specs.Verdict.{◌then◌, check, from}
-use Rattle.wire.specs.declared.Verdict.TheVariants.{Accepted}
+use Rattle.wire.specs.Verdict.{◌then◌, check, from, Accepted}
 use Rattle.wire.proofs.Choices.{both}
 use Rattle.wire.proofs.Verdicts.{then_accepted, check_then, check_accepted, from_accepted, each_accepted}
 use Rattle.psv0_layout.specs.Field.{element_total, mask_bytes_of, name_offset_of, index_reference_of, row_count}

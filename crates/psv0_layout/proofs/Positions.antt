@@ -20,6 +20,7 @@ use Rattle.psv0_layout.specs.Judged.{head_judged, body_fits}
 use Rattle.psv0_layout.specs.Layout.{counted, after_counted, counted_fits, records, after_records, records_fit, rows, runtime_of, guide_of, resource_count_of, after1, after2, after3, after4, after5, sections, body_of, resource_width, seen}
 use Rattle.psv0_layout.specs.Position.{next_counted, next_records, resources_start, strings_start, indices_start, elements_start, masks_start}
 use Rattle.psv0_layout.specs.Shown.{mask_at}
+use Rattle.psv0_layout.proofs.Masks.{sum_inside}
 use Rattle.psv0_layout.proofs.Wholes.{records_count, width_fits}
 
 -- ---- a part of d: w bytes from position p on
@@ -276,13 +277,6 @@ module _ (d : List ℕ) (i s : ℕ) (es : u32_at d (elements_start d) ≡ s) (h 
     element_u32 g = rw element_at_lem (part_u32 d (elements_start d + 4 + i * s) 16 o g)
 
 -- ---- the masks
-sum_inside : (l : List ℕ) (m : ℕ) → sum (take m l) + get_or l m 0 ≤ sum l
-unfolding sum
-sum_inside [] zero = omega arith
-sum_inside [] (suc m) = omega arith
-sum_inside (x ∷ l) zero = omega arith
-sum_inside (x ∷ l) (suc m) = omega (arith, sum_inside l m)
-
 pub mask_at_lem : (d : List ℕ) (m : ℕ)
     → mask_at (guide_of d) (sections d).masks m
     ≡ take (get_or (mask_words_of (guide_of d)) m 0 * 4) (drop (masks_start d + sum (take m (mask_words_of (guide_of d))) * 4) d)

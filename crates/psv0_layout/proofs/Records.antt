@@ -1,5 +1,6 @@
 -- Laws of the fields of one record.
 -- Assumes nothing.
+use Rattle.std.specs.Prelude.{Some}
 use mathlib.Core.Path.{◌≡◌, refl}
 use mathlib.Core.Bool.{Bool, true, false}
 use mathlib.Core.List.{List, [], ◌∷◌}
@@ -15,7 +16,6 @@ use Rattle.wire.proofs.Numbers.{u32_take}
 use Rattle.psv0_layout.specs.Shown.{unset, number, set_if, of_resource}
 use Rattle.psv0_layout.specs.Answers.{field_of}
 use Rattle.psv0_layout.specs.Parts.{resource_shown}
-use Rattle.psv0_layout.specs.declared.Field.TheVariants.{Set}
 
 -- field f of the first w bytes of a record: set where it lies inside
 inside : (r : List ℕ) (w f : ℕ) → f < 6 → w ≤ length r → f * 4 + 4 ≤ w → of_resource (take w r ∷ []) 0 f ≡ number (u32_at r (f * 4))
@@ -30,7 +30,7 @@ outside r w f l h g =
 
 module _ (er : ℕ) (r : List ℕ) (f : ℕ) where
   -- type, space and the two bounds
-  pub resource_early : f < 4 → 16 ≤ length r → Set (u32_at r (f * 4)) ≡ resource_shown er r f
+  pub resource_early : f < 4 → 16 ≤ length r → Some (u32_at r (f * 4)) ≡ resource_shown er r f
   unfolding resource_shown
   resource_early l h =
       let e = inside r 16 f (omega arith) h (omega arith) in

@@ -17,8 +17,7 @@ use Rattle.utf8_layout.proofs.Joined.{whole_more}
 use Rattle.utf8_layout.proofs.Rows.{front_plain}
 use Rattle.wire.specs.Number.{u32_at}
 use Rattle.wire.specs.Search.{first}
-use Rattle.wire.specs.Verdict.{◌then◌, check, each}
-use Rattle.wire.specs.declared.Verdict.TheVariants.{Accepted, Refused}
+use Rattle.wire.specs.Verdict.{◌then◌, check, each, Accepted, Refused}
 use Rattle.wire.proofs.Choices.{both}
 use Rattle.wire.proofs.Searches.{first_below, first_at}
 use Rattle.wire.proofs.Verdicts.{each_stop, each_next}

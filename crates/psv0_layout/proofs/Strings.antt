@@ -8,7 +8,7 @@ use lib.ListN.{length, get_or}
 use borrow.Author.Tests.{le-leb, lt-ltb}
 use Rattle.utf8_layout.specs.Sequence.{well_formed, code_points}
 use Rattle.wire.specs.Number.{u32_at}
-use Rattle.wire.specs.declared.Verdict.TheVariants.{Accepted}
+use Rattle.wire.specs.Verdict.{Accepted}
 use Rattle.psv0_layout.specs.Field.{element_total, name_offset_of}
 use Rattle.psv0_layout.specs.Judged.{opened}
 use Rattle.psv0_layout.specs.Layout.{guide_of, sections, seen, edition_read_of}

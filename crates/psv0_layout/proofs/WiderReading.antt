@@ -12,7 +12,7 @@ use borrow.Author.Tests.{leb-true}
 use Rattle.constants.specs.Edition.{size_of}
 use Rattle.constants.proofs.Editions.{size_mono, edition_read_lem}
 use Rattle.wire.specs.Number.{u32_at}
-use Rattle.wire.specs.declared.Verdict.TheVariants.{Accepted}
+use Rattle.wire.specs.Verdict.{Accepted}
 use Rattle.wire.proofs.Choices.{choose_eq}
 use Rattle.wire.proofs.Verdicts.{then_accepted, from_accepted, from_is, accepted_then}
 use Rattle.psv0_layout.specs.Field.{element_total, mask_bytes_of}

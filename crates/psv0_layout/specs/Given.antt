@@ -1,8 +1,7 @@
 -- Checks of sections that are given one by one, and not laid out as PSV0 data.
 use Rattle.std.specs.Prelude.{List, [], ℕ, ◌/◌, length}
 use Rattle.wire.specs.Number.{u32_at}
-use Rattle.wire.specs.Verdict.{◌then◌, check, from}
-use Rattle.wire.specs.declared.Verdict.{Verdict}
+use Rattle.wire.specs.Verdict.{◌then◌, check, from, Verdict}
 use Rattle.psv0_layout.specs.Judged.{fields_judged, elements_judged}
 use Rattle.psv0_layout.specs.Layout.{Body, rows}
 use Rattle.psv0_layout.specs.Reference.{string_good}

@@ -1,8 +1,7 @@
 -- Refusals 25, 2 and 12 to 24 of PSV0 data, in the order of checking.
 use Rattle.std.specs.Prelude.{◌&&◌, ◌||◌, List, [], ℕ, ◌+◌, ◌%◌, leb, eqb, length, get_or, drop}
 use Rattle.wire.specs.Number.{u32_at}
-use Rattle.wire.specs.Verdict.{◌then◌, check, from, each}
-use Rattle.wire.specs.declared.Verdict.{Verdict}
+use Rattle.wire.specs.Verdict.{◌then◌, check, from, each, Verdict}
 use Rattle.psv0_layout.specs.Field.{stage, uses_view_id_of, output_vectors, element_total, mask_bytes_of, name_offset_of, index_reference_of, row_count}
 use Rattle.psv0_layout.specs.Layout.{after_counted, counted_fits, after_records, records_fit, sections, after1, after2, guide_of, resource_count_of, Body, Seen, seen, edition_read_of}
 use Rattle.psv0_layout.specs.Reference.{string_good, index_good}

@@ -3,9 +3,7 @@ use Rattle.std.specs.Prelude.{Bool, true, false, ◌&&◌, List, [], ◌∷◌, 
 use Rattle.utf8_layout.specs.Sequence.{code_points}
 use Rattle.wire.specs.Choice.{choose}
 use Rattle.wire.specs.Number.{u32_at}
-use Rattle.wire.specs.Verdict.{◌then◌, check}
-use Rattle.wire.specs.declared.Verdict.{Verdict}
-use Rattle.wire.specs.declared.Verdict.TheVariants.{Accepted, Refused}
+use Rattle.wire.specs.Verdict.{◌then◌, check, Verdict, Accepted, Refused}
 use Rattle.psv0_layout.specs.Field.{stage, uses_view_id_of, output_vectors, input_vectors_of, vertex_count, vertex_stage, patch_byte, patch_stage, topology, mesh_stage, thread_count, thread_stage, mask_words_of, sum, name_offset_of, index_reference_of, row_count}
 use Rattle.psv0_layout.specs.Judged.{opened}
 use Rattle.psv0_layout.specs.Layout.{Body, Seen, seen, sections, edition_read_of}

@@ -1,14 +1,13 @@
 -- Where the sections of PSV0 data lie, for a reading at an edition.
-use Rattle.std.specs.Prelude.{◌≡◌, List, ℕ, ◌+◌, ◌*◌, ◌≤◌, leb, length, take, drop}
+use Rattle.std.specs.Prelude.{◌≡◌, List, ℕ, ◌+◌, ◌*◌, ◌≤◌, leb, Result, length, take, drop}
 use Rattle.wire.specs.Choice.{choose}
 use Rattle.wire.specs.Number.{u32_at}
-use Rattle.wire.specs.declared.Verdict.{Verdict}
-use Rattle.wire.specs.declared.Verdict.TheVariants.{Accepted, Refused}
+use Rattle.wire.specs.Verdict.{under}
+use Rattle.wire.specs.declared.Refusal.{Refusal}
 use Rattle.psv0_layout.specs.Field.{element_total, mask_bytes_of}
 use Rattle.psv0_layout.specs.Judged.{opened}
 use Rattle.psv0_layout.specs.Layout.{guide_of, sections, edition_read_of}
 use Rattle.psv0_layout.specs.Position.{stride_at, first_record, resources_start, strings_start, indices_start, elements_start, masks_start}
-use Rattle.psv0_sections.specs.declared.Located.{Located}
 use Rattle.psv0_sections.specs.declared.Places.{Places}
 
 -- sections 1 and 2 alone, by S and the resource records' position, count and size
@@ -30,10 +29,6 @@ head_only s at n t =
       masks = 0;
       mask_bytes = 0;
     }
-
--- no places: what a refusal shows
-abbrev pub no_places : Places
-no_places = head_only 0 0 0 0
 
 -- at edition read 0: sections 1 and 2
 unfoldable pub head_places : List ℕ → Places
@@ -64,13 +59,9 @@ body_places er d =
 unfoldable pub places_of : ℕ → List ℕ → Places
 places_of er d = choose (leb 1 er) (body_places er d) (head_places d)
 
-abbrev pub places_if : Verdict → Places → Places
-places_if Accepted p = p
-places_if (Refused n q) p = no_places
-
--- what reader k finds: its verdict on PSV0 data alone, and the places where it accepts
-unfoldable pub located_of : ℕ → List ℕ → Located
-located_of k d = record { verdict = opened k d; places = places_if (opened k d) (places_of (edition_read_of k d) d) }
+-- what reader k finds: the places, under its verdict on PSV0 data alone
+unfoldable pub located_of : ℕ → List ℕ → Result Places Refusal
+located_of k d = under (opened k d) (places_of (edition_read_of k d) d)
 
 -- the bytes of d from a position on
 abbrev pub stretch : List ℕ → ℕ → ℕ → List ℕ

@@ -1,61 +1,45 @@
 -- What the steps of the walk over PSV0 data answer.
-use Rattle.std.specs.Prelude.{◌≡◌, List, ℕ, ◌%◌, ◌≤◌, ◌<◌, leb, length, drop}
+use Rattle.std.specs.Prelude.{◌≡◌, List, ℕ, ◌%◌, ◌≤◌, ◌<◌, leb, Option, Some, None, Result, length, drop}
 use Rattle.constants.specs.Edition.{size_of}
 use Rattle.wire.specs.Choice.{choose}
 use Rattle.wire.specs.Number.{u32_at}
-use Rattle.wire.specs.declared.Verdict.{Verdict}
-use Rattle.wire.specs.declared.Verdict.TheVariants.{Accepted, Refused}
+use Rattle.wire.specs.Verdict.{under, Accepted}
+use Rattle.wire.specs.declared.Refusal.{Refusal}
 use Rattle.psv0_layout.specs.Field.{element_total, mask_bytes_of}
 use Rattle.psv0_layout.specs.Judged.{head_judged, body_fits}
 use Rattle.psv0_layout.specs.Layout.{records_fit, guide_of, after2}
 use Rattle.psv0_layout.specs.Position.{stride_at, first_record, resources_start, strings_start, next_records}
-use Rattle.psv0_sections.specs.Places.{head_places, body_places, places_if}
+use Rattle.psv0_sections.specs.Places.{head_places, body_places}
 use Rattle.psv0_sections.specs.declared.Cursor.{Cursor}
-use Rattle.psv0_sections.specs.declared.Step.{Step}
-use Rattle.psv0_sections.specs.declared.Step.TheVariants.{Past, Short}
-use Rattle.psv0_sections.specs.declared.Table.{Table}
-use Rattle.psv0_sections.specs.declared.Table.TheVariants.{Whole, Cut}
-use Rattle.psv0_sections.specs.declared.Head.{Head}
-use Rattle.psv0_sections.specs.declared.Head.TheVariants.{Refused as HeadRefused, Read as HeadAt}
-use Rattle.psv0_sections.specs.declared.Rest.{Rest}
-use Rattle.psv0_sections.specs.declared.Rest.TheVariants.{Refused as RestRefused, Read as RestAt}
-use Rattle.psv0_sections.specs.declared.Located.{Located}
 use Rattle.psv0_sections.specs.declared.Places.{Places}
+use Rattle.psv0_sections.specs.declared.Table.{Table}
 
--- a number, and the next position where the data reach it
-unfoldable pub step_to : List ℕ → ℕ → ℕ → Step
-step_to d n next = choose (leb next (length d)) (Past n (record { at = next })) Short
+-- the next position, where the data reach it
+unfoldable pub reach : List ℕ → ℕ → Option Cursor
+reach d next = choose (leb next (length d)) (Some (record { at = next })) None
+
+-- the same with a number
+unfoldable pub step_to : List ℕ → ℕ → ℕ → Option (ℕ × Cursor)
+step_to d n next = choose (leb next (length d)) (Some (n, record { at = next })) None
 
 -- its number is one of four bytes
-abbrev pub SmallStep : Step → Type 0
-SmallStep (Past n c) = n < 4294967296
-SmallStep Short = Unit {0}
+abbrev pub SmallStep : Option (ℕ × Cursor) → Type 0
+SmallStep (Some s) = s.0 < 4294967296
+SmallStep None = Unit {0}
 
 -- n records that start, with their size, at a position
-unfoldable pub table_at : ℕ → List ℕ → ℕ → Table
+unfoldable pub table_at : ℕ → List ℕ → ℕ → Option Table
 table_at n d at =
     choose (records_fit n (drop at d))
-    (Whole (first_record n at) (stride_at n d at) (record { at = next_records n d at }))
-    Cut
+    (Some (record { first = first_record n at; stride = stride_at n d at; next = record { at = next_records n d at } }))
+    None
 
--- sections 1 and 2, and sections 3 to 6, with the places that a verdict lets be known
-abbrev pub head_if : Verdict → Places → ℕ → Head
-head_if Accepted p next = HeadAt p (record { at = next })
-head_if (Refused n q) p next = HeadRefused n q
+-- sections 1 and 2, and sections 3 to 6: the places that a verdict lets be known
+unfoldable pub head_of : List ℕ → Result (Places × Cursor) Refusal
+head_of d = under (head_judged d) (head_places d, record { at = strings_start d })
 
-abbrev pub rest_if : Verdict → Places → Rest
-rest_if Accepted p = RestAt p
-rest_if (Refused n q) p = RestRefused n q
-
-unfoldable pub head_of : List ℕ → Head
-head_of d = head_if (head_judged d) (head_places d) (strings_start d)
-
-unfoldable pub rest_of : ℕ → List ℕ → Rest
-rest_of er d = rest_if (body_fits (after2 d) (element_total (guide_of d)) (mask_bytes_of (guide_of d))) (body_places er d)
-
--- a verdict and the places that it lets be known
-abbrev pub found : Verdict → Places → Located
-found v p = record { verdict = v; places = places_if v p }
+unfoldable pub rest_of : ℕ → List ℕ → Result Places Refusal
+rest_of er d = under (body_fits (after2 d) (element_total (guide_of d)) (mask_bytes_of (guide_of d))) (body_places er d)
 
 -- the runtime record is there, with S and the position past it: 12 and 13 are passed
 pub record RuntimeRead (d : List ℕ) (s : ℕ) (c : Cursor) : Type 0 where

@@ -10,7 +10,7 @@ use lib.Seq.{take_all}
 use borrow.Author.Tests.{le-leb, leb-true}
 use Rattle.constants.specs.Edition.{size_of}
 use Rattle.wire.specs.Number.{Bytes}
-use Rattle.wire.specs.declared.Verdict.TheVariants.{Accepted}
+use Rattle.wire.specs.Verdict.{Accepted}
 use Rattle.wire.proofs.Verdicts.{check_then, then_accepted, from_accepted}
 use Rattle.psv0_layout.specs.Field.{element_total, mask_bytes_of}
 use Rattle.psv0_layout.specs.Handed.{handed}

@@ -10,7 +10,7 @@ use lib.Dec.{leb}
 use lib.ListN.{length, drop, take-append-drop}
 use borrow.Author.Tests.{leb-true}
 use Rattle.wire.specs.Number.{u32_at, le32, Bytes}
-use Rattle.wire.specs.declared.Verdict.TheVariants.{Accepted}
+use Rattle.wire.specs.Verdict.{Accepted}
 use Rattle.wire.proofs.Choices.{both}
 use Rattle.wire.proofs.Numbers.{le32_u32, bytes_drop}
 use Rattle.wire.proofs.Verdicts.{check_accepted, check_then}

@@ -12,7 +12,6 @@ use Rattle.wire.proofs.Stretches.{Written, none_written, front_written, written_
 use Rattle.psv0_writer_layout.specs.Stretch.{size_field, size_field_length, head_bytes, body_bytes, head_length, body_length, written_bytes, written_length}
 use Rattle.psv0_writer_layout.specs.Written.{Given, resource_size_of}
 use Rattle.psv0_writer_layout.proofs.Stretches.{size_field_lem, head_length_lem}
-use Rattle.psv0_writer_layout.specs.Answer.{head_given, body_given}
 
 -- ---- a number and then bytes
 pub counted_length : (n : ℕ) (b : List ℕ) → length (le32 n ++ b) ≡ 4 + length b
@@ -42,6 +41,9 @@ module _ (b : List ℕ) (some : length b ≡ 0 → ⊥) where
   pub some_records : (s : ℕ) → le32 s ++ b ≡ size_field s b ++ b
   some_records s = simp (ne_eqb _ _ some)
 
+regroup : (a b c d e l : List ℕ) → (a ++ (b ++ (c ++ (d ++ (e ++ []))))) ++ l ≡ a ++ (b ++ (c ++ (d ++ (e ++ l))))
+regroup a b c d e l = simp (append_assoc, append-nil)
+
 -- ---- sections 3 to 5 in a slice that held o: the stretch from e to n of x comes back as y
 abbrev pasted : ℕ → ℕ → List ℕ → List ℕ → List ℕ
 pasted e n x y = take e x ++ (y ++ drop (n - e) (drop e x))
@@ -63,51 +65,41 @@ module _ (o t x : List ℕ) {v w : List ℕ} (qt : v ≡ le32 (length t) ++ t) (
       written_more tables_written (tables_end + _ + length b) (omega arith) _ q (records_length 16 b ∙ omega arith)
 
 -- ---- sections 1 and 2, and 3 to 6, and all
-pub head_laid_lem : (e : ℕ) (r b : List ℕ) {s : ℕ} → s ≡ resource_size_of e
-    → (le32 (length r) ++ r) ++ (le32 (length b / s) ++ (size_field s b ++ b)) ≡ head_bytes e (head_given r b) []
-unfolding head_bytes
-head_laid_lem e r b q = rw q (simp (append_assoc, append-nil))
-
-pub body_laid_lem : (t x b m : List ℕ)
-    → (((le32 (length t) ++ t) ++ (le32 (length x / 4) ++ x)) ++ (size_field 16 b ++ b)) ++ m ≡ body_bytes (body_given t x b m)
-unfolding body_bytes
-body_laid_lem t x b m = simp append_assoc
-
-pub head_front : (o : List ℕ) (e : ℕ) (r b : List ℕ) {h : ℕ} {v : List ℕ} → v ≡ head_bytes e (head_given r b) [] → h ≡ head_length (head_given r b)
-    → Written o (head_bytes e (head_given r b) []) h (v ++ drop h o)
-head_front o e r b q k = rw q (front_written o _ _ (head_length_lem e (head_given r b) [] ∙ omega arith))
-
-regroup : (a b c d e l : List ℕ) → (a ++ (b ++ (c ++ (d ++ (e ++ []))))) ++ l ≡ a ++ (b ++ (c ++ (d ++ (e ++ l))))
-regroup a b c d e l = simp (append_assoc, append-nil)
-
 module _ (e : ℕ) (g : Given) where
-  abbrev head : Given
-  head = head_given g.runtime g.resources
+  pub head_laid_lem : {s : ℕ} → s ≡ resource_size_of e
+      → (le32 (length g.runtime) ++ g.runtime) ++ (le32 (length g.resources / s) ++ (size_field s g.resources ++ g.resources)) ≡ head_bytes e g []
+  unfolding head_bytes
+  head_laid_lem q = rw q (simp (append_assoc, append-nil))
 
-  abbrev body : Given
-  body = body_given g.strings g.indices g.elements g.masks
+  pub head_front : (o : List ℕ) {h : ℕ} {v : List ℕ} → v ≡ head_bytes e g [] → h ≡ head_length g → Written o (head_bytes e g []) h (v ++ drop h o)
+  head_front o q k = rw q (front_written o _ _ (head_length_lem e g [] ∙ omega arith))
 
-  pub head_fits : head_length head ≤ written_length e g
-  unfolding written_length head_length
+  pub head_fits : head_length g ≤ written_length e g
+  unfolding written_length
   head_fits = omega arith
 
   module _ (z : e ≡ 0) where
-    pub head_only_lem : written_length e g ≡ head_length head
-    unfolding written_length head_length
+    pub head_only_lem : written_length e g ≡ head_length g
+    unfolding written_length
     head_only_lem = rw z (omega arith)
 
-    pub head_whole : head_bytes e head [] ≡ written_bytes e g
-    unfolding written_bytes head_bytes
+    pub head_whole : head_bytes e g [] ≡ written_bytes e g
+    unfolding written_bytes
     head_whole = rw z
 
   module _ (later : e ≡ 0 → ⊥) where
-    pub head_and_body : written_length e g ≡ head_length head + body_length body
-    unfolding written_length head_length body_length
+    pub head_and_body : written_length e g ≡ head_length g + body_length g
+    unfolding written_length
     head_and_body = rw (le-leb 1 e (omega arith))
 
-    pub both_laid : head_bytes e head [] ++ body_bytes body ≡ written_bytes e g
-    unfolding written_bytes head_bytes body_bytes
+    pub both_laid : head_bytes e g [] ++ body_bytes g ≡ written_bytes e g
+    unfolding written_bytes head_bytes
     both_laid =
         rw (le-leb 1 e (omega arith))
         (regroup (le32 (length g.runtime)) g.runtime (le32 (length g.resources / resource_size_of e)) (size_field (resource_size_of e) g.resources)
-        g.resources (body_bytes body))
+        g.resources (body_bytes g))
+
+pub body_laid_lem : (g : Given)
+    → (((le32 (length g.strings) ++ g.strings) ++ (le32 (length g.indices / 4) ++ g.indices)) ++ (size_field 16 g.elements ++ g.elements)) ++ g.masks ≡ body_bytes g
+unfolding body_bytes
+body_laid_lem g = simp append_assoc

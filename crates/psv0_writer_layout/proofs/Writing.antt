@@ -8,8 +8,7 @@ use lib.ListN.{length}
 use borrow.Author.Tests.{leb-true}
 use Rattle.constants.specs.Edition.{size_of}
 use Rattle.wire.specs.Number.{u32_at}
-use Rattle.wire.specs.Verdict.{◌then◌, check}
-use Rattle.wire.specs.declared.Verdict.{Verdict}
+use Rattle.wire.specs.Verdict.{◌then◌, check, Verdict}
 use Rattle.psv0_layout.specs.Judged.{opened}
 use Rattle.psv0_layout.specs.Layout.{sections, edition_read_of}
 use Rattle.psv0_writer_layout.specs.Checked.{given_judged}

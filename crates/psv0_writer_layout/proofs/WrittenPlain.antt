@@ -8,7 +8,7 @@ use lib.ListN.{length, drop}
 use lib.Seq.{take_all, drop_at}
 use borrow.Author.Tests.{le-leb, leb-true}
 use Rattle.constants.specs.Edition.{size_of}
-use Rattle.wire.specs.declared.Verdict.TheVariants.{Accepted}
+use Rattle.wire.specs.Verdict.{Accepted}
 use Rattle.wire.proofs.Verdicts.{check_then, then_accepted}
 use Rattle.psv0_layout.specs.Field.{mask_bytes_of}
 use Rattle.psv0_layout.specs.Handed.{from_one, handed}

@@ -1,8 +1,7 @@
 -- 15 to 24 of what the writer is given: what its code checks before it writes. proofs/Writing.antt joins this with `writer_judged`.
 use Rattle.std.specs.Prelude.{ℕ, ◌/◌, length}
 use Rattle.wire.specs.Number.{u32_at}
-use Rattle.wire.specs.Verdict.{◌then◌, check, from}
-use Rattle.wire.specs.declared.Verdict.{Verdict}
+use Rattle.wire.specs.Verdict.{◌then◌, check, from, Verdict}
 use Rattle.psv0_layout.specs.Judged.{fields_judged, elements_judged}
 use Rattle.psv0_layout.specs.Layout.{Body, rows}
 use Rattle.psv0_layout.specs.Reference.{string_good}

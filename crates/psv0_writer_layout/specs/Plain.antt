@@ -2,7 +2,7 @@
 use Rattle.std.specs.Prelude.{◌≡◌, List, [], ℕ, ◌≤◌, ◌<◌, drop}
 use Rattle.constants.specs.Edition.{size_of}
 use Rattle.wire.specs.Number.{u32_at}
-use Rattle.wire.specs.declared.Verdict.TheVariants.{Accepted}
+use Rattle.wire.specs.Verdict.{Accepted}
 use Rattle.psv0_layout.specs.Field.{mask_bytes_of}
 use Rattle.psv0_layout.specs.Handed.{handed, runtime_record, resource_records, string_table, index_table, element_records, masks}
 use Rattle.psv0_layout.specs.Judged.{opened}

@@ -2,9 +2,7 @@
 use Rattle.std.specs.Prelude.{Bool, ◌&&◌, ◌||◌, List, [], ◌++◌, ℕ, ◌+◌, ◌*◌, ◌/◌, ◌%◌, leb, eqb, length, drop}
 use Rattle.constants.specs.Edition.{size_of}
 use Rattle.wire.specs.Choice.{choose}
-use Rattle.wire.specs.Verdict.{◌then◌, check}
-use Rattle.wire.specs.declared.Verdict.{Verdict}
-use Rattle.wire.specs.declared.Verdict.TheVariants.{Accepted, Refused}
+use Rattle.wire.specs.Verdict.{◌then◌, check, Verdict, Accepted, Refused}
 use Rattle.psv0_layout.specs.Field.{element_total, mask_bytes_of}
 use Rattle.psv0_layout.specs.Judged.{opened}
 use Rattle.psv0_layout.specs.Laid.{head_laid, body_laid}
@@ -68,7 +66,3 @@ writer_judged e g room =
 abbrev pub output_if : Verdict → List ℕ → List ℕ → List ℕ
 output_if Accepted l out = l ++ drop (length l) out
 output_if (Refused n p) l out = out
-
-abbrev pub length_if : Verdict → List ℕ → ℕ
-length_if Accepted l = length l
-length_if (Refused n p) l = 0

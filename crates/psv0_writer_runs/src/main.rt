@@ -2,191 +2,94 @@
 // stdout. The output holds 512 bytes of 170, of which the writer is lent some.
 #![tactic(auto)]
 
+use printing::text;
 use psv0_sections::Places;
-use psv0_writer_layout::Written;
-use wire::Verdict;
-
-// Standard output.
-const STDOUT_FILENO: i32 = 1;
+use psv0_writer::Sections;
+use runs::{either, number, refused, stretch};
 
 // ---- printing
 
-fn print(s: &[u8]) {
-    io::write_all(STDOUT_FILENO, s);
-}
-
-fn number(n: usize) {
-    print(b" ");
-    io::print_decimal(STDOUT_FILENO, n as u64);
-}
-
-fn refused(n: u8, place: usize) {
-    print(b" refused");
-    number(n as usize);
-    number(place);
-}
-
-// ---- parts of slices; where a part does not fit, the whole
-
-fn front(s: &[u8], n: usize) -> &[u8] {
-    if n <= s.len() {
-        return &s[0..n];
-    }
-    s
-}
-
-fn part(s: &[u8], at: usize, n: usize) -> &[u8] {
-    if at <= s.len() {
-        if n <= s.len() - at {
-            let end = at + n;
-            return &s[at..end];
-        }
-    }
-    s
-}
-
 // Whether the bytes from a place on are as they were.
-fn kept(out: &[u8], at: usize) -> bool {
-    let mut i = at;
-    while i < out.len() {
-        if out[i] != 170 {
-            return false;
-        }
-        i += 1;
-    }
-    true
-}
-
-fn print_kept(out: &[u8], at: usize) {
-    if kept(out, at) {
-        print(b" kept");
-    } else {
-        print(b" changed");
-    }
+fn print_kept(out: &[u8; 512], at: usize) {
+    let kept = out.iter().skip(at).all(|b| *b == 170);
+    either(kept, b" kept", b" changed");
 }
 
 fn dump(s: &[u8]) {
-    let mut i = 0;
-    while i < s.len() {
-        number(s[i] as usize);
-        i += 1;
+    for b in s {
+        number(*b as usize);
     }
-    print(b"\n");
+    text(b"\n");
 }
 
 // ---- reading back
 
 fn print_places(p: Places) {
-    print(b" edition");
+    text(b" edition");
     number(p.edition);
-    print(b" runtime");
+    text(b" runtime");
     number(p.size);
-    print(b" resources");
+    text(b" resources");
     number(p.resources);
     number(p.resource_count);
     number(p.resource_size);
-    print(b" strings");
+    text(b" strings");
     number(p.strings);
     number(p.string_bytes);
-    print(b" indices");
+    text(b" indices");
     number(p.indices);
     number(p.index_count);
-    print(b" elements");
+    text(b" elements");
     number(p.elements);
     number(p.element_count);
     number(p.element_size);
-    print(b" masks");
+    text(b" masks");
     number(p.masks);
     number(p.mask_bytes);
 }
 
 // Whether a section's bytes are those that were given.
 fn same(d: &[u8], at: usize, given: &[u8]) -> bool {
-    check::same(part(d, at, given.len()), given)
+    check::same(stretch(d, at, given.len()), given)
 }
 
-fn same_sections(
-    d: &[u8],
-    p: Places,
-    r: &[u8],
-    s: &[u8],
-    t: &[u8],
-    x: &[u8],
-    e: &[u8],
-    m: &[u8],
-) -> bool {
-    if !same(d, 4, r) {
-        return false;
-    }
-    if !same(d, p.resources, s) {
-        return false;
-    }
-    if !same(d, p.strings, t) {
-        return false;
-    }
-    if !same(d, p.indices, x) {
-        return false;
-    }
-    if !same(d, p.elements, e) {
-        return false;
-    }
-    same(d, p.masks, m)
+fn same_sections(d: &[u8], p: Places, given: Sections) -> bool {
+    same(d, 4, given.runtime)
+        && same(d, p.resources, given.resources)
+        && same(d, p.strings, given.strings)
+        && same(d, p.indices, given.indices)
+        && same(d, p.elements, given.elements)
+        && same(d, p.masks, given.masks)
 }
 
-fn read_back(d: &[u8], r: &[u8], s: &[u8], t: &[u8], x: &[u8], e: &[u8], m: &[u8]) {
-    let located = psv0_sections::locate(d, 3);
-    let verdict = located.verdict;
-    match verdict {
-        Verdict::Refused(n, place) => refused(n, place),
-        Verdict::Accepted => {
-            let p = located.places;
+fn read_back(d: &[u8], given: Sections) {
+    match psv0_sections::locate(d, 3) {
+        Err(r) => refused(r),
+        Ok(p) => {
             print_places(p);
-            if same_sections(d, p, r, s, t, x, e, m) {
-                print(b" same");
-            } else {
-                print(b" differs");
-            }
+            either(same_sections(d, p, given), b" same", b" differs");
         }
     }
 }
 
 // ---- writing
 
-fn attempt(
-    edition: usize,
-    r: &[u8],
-    s: &[u8],
-    t: &[u8],
-    x: &[u8],
-    e: &[u8],
-    m: &[u8],
-    out: &mut [u8],
-    room: usize,
-) -> Written {
-    if room <= out.len() {
-        return psv0_writer::write(edition, r, s, t, x, e, m, &mut out[0..room]);
-    }
-    psv0_writer::write(edition, r, s, t, x, e, m, out)
-}
-
-fn run(edition: usize, r: &[u8], s: &[u8], t: &[u8], x: &[u8], e: &[u8], m: &[u8], room: usize) {
+// One case, in so many of the 512 bytes.
+fn run(edition: usize, given: Sections, room: usize) {
     let mut out = [170u8; 512];
-    let written = attempt(edition, r, s, t, x, e, m, &mut out, room);
-    let len = written.len;
-    let verdict = written.verdict;
-    match verdict {
-        Verdict::Refused(n, place) => {
-            refused(n, place);
-            print_kept(&out, len);
+    match given.write(edition, &mut out[..room.min(512)]) {
+        Err(r) => {
+            refused(r);
+            print_kept(&out, 0);
         }
-        Verdict::Accepted => {
-            print(b" accepted");
+        Ok(len) => {
+            text(b" accepted");
             number(len);
             print_kept(&out, len);
-            read_back(front(&out, len), r, s, t, x, e, m);
+            read_back(stretch(&out, 0, len), given);
         }
     }
-    print(b"\n");
+    text(b"\n");
 }
 
 // ---- what is given
@@ -197,14 +100,9 @@ fn record(stage: u8, view: u8, p: u8, counts: [u8; 3], u: u8, v: [u8; 4]) -> [u8
     r[24] = stage;
     r[25] = view;
     r[26] = p;
-    r[28] = counts[0];
-    r[29] = counts[1];
-    r[30] = counts[2];
+    r[28..31].copy_from_slice(&counts);
     r[31] = u;
-    r[32] = v[0];
-    r[33] = v[1];
-    r[34] = v[2];
-    r[35] = v[3];
+    r[32..36].copy_from_slice(&v);
     r
 }
 
@@ -228,16 +126,12 @@ fn three() -> [u8; 52] {
 // Three elements: the name offset, the index reference and the rows of each.
 fn elements(names: [u8; 3], indices: [u8; 3], rows: [u8; 3]) -> [u8; 48] {
     let mut e = [0u8; 48];
-    e[0] = names[0];
-    e[4] = indices[0];
-    e[8] = rows[0];
+    for i in 0..3 {
+        e[16 * i] = names[i];
+        e[16 * i + 4] = indices[i];
+        e[16 * i + 8] = rows[i];
+    }
     e[15] = 11;
-    e[16] = names[1];
-    e[20] = indices[1];
-    e[24] = rows[1];
-    e[32] = names[2];
-    e[36] = indices[2];
-    e[40] = rows[2];
     e
 }
 
@@ -248,16 +142,15 @@ fn case(edition: usize, r: &[u8; 52], e: &[u8; 48], n: [usize; 6], room: usize) 
     let t = [0u8, 109, 97, 105, 110, 0, 0, 0];
     let x = [1u8, 0, 0, 0, 0, 0, 0, 0];
     let m = [9u8; 256];
-    run(
-        edition,
-        front(r, n[0]),
-        front(&s, n[1]),
-        front(&t, n[2]),
-        front(&x, n[3]),
-        front(e, n[4]),
-        front(&m, n[5]),
-        room,
-    );
+    let given = Sections {
+        runtime: stretch(r, 0, n[0]),
+        resources: stretch(&s, 0, n[1]),
+        strings: stretch(&t, 0, n[2]),
+        indices: stretch(&x, 0, n[3]),
+        elements: stretch(e, 0, n[4]),
+        masks: stretch(&m, 0, n[5]),
+    };
+    run(edition, given, room);
 }
 
 // A case whose elements are good: names at 0, 1 and 5, arrays of two numbers, one, and none at the end of the table.
@@ -269,41 +162,41 @@ fn plain(edition: usize, r: [u8; 52], n: [usize; 6], room: usize) {
 // ---- editions, and the output's length
 
 fn editions() {
-    print(b"edition 0:");
+    text(b"edition 0:");
     plain(0, bare(0), [24, 0, 0, 0, 0, 0], 512);
-    print(b"edition 0, 2 resources:");
+    text(b"edition 0, 2 resources:");
     plain(0, bare(0), [24, 32, 0, 0, 0, 0], 512);
-    print(b"edition 1:");
+    text(b"edition 1:");
     plain(1, bare(1), [36, 0, 0, 0, 0, 0], 512);
-    print(b"edition 1, every section:");
+    text(b"edition 1, every section:");
     plain(
         1,
         record(1, 1, 0, [1, 1, 0], 2, [9, 0, 0, 0]),
         [36, 32, 8, 8, 32, 72],
         512,
     );
-    print(b"edition 2:");
+    text(b"edition 2:");
     plain(2, bare(5), [48, 48, 8, 8, 0, 0], 512);
-    print(b"edition 3:");
+    text(b"edition 3:");
     plain(3, named(1), [52, 0, 8, 0, 0, 0], 512);
-    print(b"edition 4:");
+    text(b"edition 4:");
     plain(4, named(1), [52, 0, 8, 0, 0, 0], 512);
 }
 
 fn rooms() {
-    print(b"68 of 512 bytes:");
+    text(b"68 of 512 bytes:");
     plain(0, bare(0), [24, 32, 0, 0, 0, 0], 512);
-    print(b"68 of 69 bytes:");
+    text(b"68 of 69 bytes:");
     plain(0, bare(0), [24, 32, 0, 0, 0, 0], 69);
-    print(b"68 of 68 bytes:");
+    text(b"68 of 68 bytes:");
     plain(0, bare(0), [24, 32, 0, 0, 0, 0], 68);
-    print(b"68 of 67 bytes:");
+    text(b"68 of 67 bytes:");
     plain(0, bare(0), [24, 32, 0, 0, 0, 0], 67);
-    print(b"76 of 76 bytes:");
+    text(b"76 of 76 bytes:");
     plain(3, named(1), [52, 0, 8, 0, 0, 0], 76);
-    print(b"76 of 75 bytes:");
+    text(b"76 of 75 bytes:");
     plain(3, named(1), [52, 0, 8, 0, 0, 0], 75);
-    print(b"52 of 0 bytes:");
+    text(b"52 of 0 bytes:");
     plain(1, bare(1), [36, 0, 0, 0, 0, 0], 0);
 }
 
@@ -314,109 +207,109 @@ fn masks(r: [u8; 52], n: usize) {
 }
 
 fn stages() {
-    print(b"vertex:");
+    text(b"vertex:");
     masks(record(1, 1, 9, [0, 0, 0], 1, [1, 0, 0, 0]), 20);
-    print(b"vertex, masks of a hull shader:");
+    text(b"vertex, masks of a hull shader:");
     masks(record(1, 1, 9, [0, 0, 0], 1, [1, 0, 0, 0]), 60);
-    print(b"hull:");
+    text(b"hull:");
     masks(record(3, 1, 9, [0, 0, 0], 1, [1, 0, 0, 0]), 60);
-    print(b"hull, no view masks:");
+    text(b"hull, no view masks:");
     masks(record(3, 0, 9, [0, 0, 0], 1, [1, 0, 0, 0]), 48);
-    print(b"domain:");
+    text(b"domain:");
     masks(record(4, 1, 3, [0, 0, 0], 1, [9, 0, 0, 0]), 136);
-    print(b"domain, 4 bytes less:");
+    text(b"domain, 4 bytes less:");
     masks(record(4, 1, 3, [0, 0, 0], 1, [9, 0, 0, 0]), 132);
-    print(b"domain, 4 bytes more:");
+    text(b"domain, 4 bytes more:");
     masks(record(4, 1, 3, [0, 0, 0], 1, [9, 0, 0, 0]), 140);
-    print(b"geometry:");
+    text(b"geometry:");
     masks(record(2, 0, 9, [0, 0, 0], 1, [8, 9, 0, 1]), 64);
-    print(b"geometry, view masks:");
+    text(b"geometry, view masks:");
     masks(record(2, 1, 9, [0, 0, 0], 1, [8, 9, 0, 1]), 80);
-    print(b"mesh:");
+    text(b"mesh:");
     masks(record(13, 1, 9, [0, 0, 0], 1, [1, 0, 0, 0]), 28);
 }
 
 // ---- 27
 
 fn lengths() {
-    print(b"runtime 24 at edition 1:");
+    text(b"runtime 24 at edition 1:");
     plain(1, bare(1), [24, 0, 0, 0, 0, 0], 512);
-    print(b"runtime 48 at edition 1:");
+    text(b"runtime 48 at edition 1:");
     plain(1, bare(1), [48, 0, 0, 0, 0, 0], 512);
-    print(b"runtime 52 at edition 2:");
+    text(b"runtime 52 at edition 2:");
     plain(2, bare(1), [52, 0, 0, 0, 0, 0], 512);
-    print(b"resources 24 at edition 1:");
+    text(b"resources 24 at edition 1:");
     plain(1, bare(1), [36, 24, 0, 0, 0, 0], 512);
-    print(b"resources 16 at edition 2:");
+    text(b"resources 16 at edition 2:");
     plain(2, bare(1), [48, 16, 0, 0, 0, 0], 512);
-    print(b"resources 25 at edition 2:");
+    text(b"resources 25 at edition 2:");
     plain(2, bare(1), [48, 25, 0, 0, 0, 0], 512);
-    print(b"strings 5:");
+    text(b"strings 5:");
     plain(1, bare(1), [36, 0, 5, 0, 0, 0], 512);
-    print(b"indices 6:");
+    text(b"indices 6:");
     plain(1, bare(1), [36, 0, 0, 6, 0, 0], 512);
-    print(b"elements 32 of 48:");
+    text(b"elements 32 of 48:");
     plain(1, three(), [36, 0, 8, 8, 32, 0], 512);
-    print(b"elements 16 of 0:");
+    text(b"elements 16 of 0:");
     plain(1, bare(1), [36, 0, 8, 8, 16, 0], 512);
-    print(b"masks 4 of 0:");
+    text(b"masks 4 of 0:");
     plain(1, bare(1), [36, 0, 0, 0, 0, 4], 512);
 }
 
 fn edition_0() {
-    print(b"edition 0, strings:");
+    text(b"edition 0, strings:");
     plain(0, bare(0), [24, 0, 4, 0, 0, 0], 512);
-    print(b"edition 0, indices:");
+    text(b"edition 0, indices:");
     plain(0, bare(0), [24, 0, 0, 4, 0, 0], 512);
-    print(b"edition 0, elements:");
+    text(b"edition 0, elements:");
     plain(0, bare(0), [24, 0, 0, 0, 16, 0], 512);
-    print(b"edition 0, masks:");
+    text(b"edition 0, masks:");
     plain(0, bare(0), [24, 0, 0, 0, 0, 4], 512);
 }
 
 // ---- 15 to 17
 
 fn fields() {
-    print(b"stage 15:");
+    text(b"stage 15:");
     plain(1, bare(15), [36, 0, 0, 0, 0, 0], 512);
-    print(b"stage 16:");
+    text(b"stage 16:");
     plain(1, bare(16), [36, 0, 0, 0, 0, 0], 512);
-    print(b"UsesViewID 2:");
+    text(b"UsesViewID 2:");
     plain(
         1,
         record(1, 2, 0, [0, 0, 0], 1, [1, 0, 0, 0]),
         [36, 0, 0, 0, 0, 16],
         512,
     );
-    print(b"UsesViewID 2, view masks:");
+    text(b"UsesViewID 2, view masks:");
     plain(
         1,
         record(1, 2, 0, [0, 0, 0], 1, [1, 0, 0, 0]),
         [36, 0, 0, 0, 0, 20],
         512,
     );
-    print(b"stream 1 of a vertex shader:");
+    text(b"stream 1 of a vertex shader:");
     plain(
         1,
         record(1, 0, 0, [0, 0, 0], 1, [0, 1, 0, 0]),
         [36, 0, 0, 0, 0, 16],
         512,
     );
-    print(b"stream 1 of a vertex shader, no masks:");
+    text(b"stream 1 of a vertex shader, no masks:");
     plain(
         1,
         record(1, 0, 0, [0, 0, 0], 1, [0, 1, 0, 0]),
         [36, 0, 0, 0, 0, 0],
         512,
     );
-    print(b"stream 3 of a compute shader:");
+    text(b"stream 3 of a compute shader:");
     plain(
         1,
         record(5, 0, 0, [0, 0, 0], 0, [0, 0, 0, 1]),
         [36, 0, 0, 0, 0, 0],
         512,
     );
-    print(b"stream 3 of a geometry shader:");
+    text(b"stream 3 of a geometry shader:");
     plain(
         1,
         record(2, 0, 0, [0, 0, 0], 0, [0, 0, 0, 1]),
@@ -434,79 +327,79 @@ fn references(names: [u8; 3], indices: [u8; 3], rows: [u8; 3]) {
 }
 
 fn element_references() {
-    print(b"three elements:");
+    text(b"three elements:");
     references([0, 1, 7], [0, 1, 0], [1, 1, 2]);
-    print(b"name 0:");
+    text(b"name 0:");
     references([8, 8, 8], [0, 0, 0], [1, 1, 1]);
-    print(b"name 1:");
+    text(b"name 1:");
     references([7, 8, 0], [0, 0, 0], [1, 1, 1]);
-    print(b"name 2:");
+    text(b"name 2:");
     references([0, 0, 255], [0, 0, 0], [1, 1, 1]);
-    print(b"index 0:");
+    text(b"index 0:");
     references([0, 0, 0], [2, 2, 2], [1, 1, 1]);
-    print(b"index 2:");
+    text(b"index 2:");
     references([0, 0, 0], [0, 1, 2], [1, 1, 1]);
-    print(b"name 1 and index 1:");
+    text(b"name 1 and index 1:");
     references([0, 8, 0], [0, 2, 0], [1, 1, 1]);
-    print(b"name 1 and index 0:");
+    text(b"name 1 and index 0:");
     references([0, 8, 0], [2, 0, 0], [1, 1, 1]);
-    print(b"no rows, at the end:");
+    text(b"no rows, at the end:");
     references([0, 0, 0], [2, 2, 2], [0, 0, 0]);
-    print(b"no rows, one past the end:");
+    text(b"no rows, one past the end:");
     references([0, 0, 0], [2, 3, 2], [0, 0, 0]);
-    print(b"array to one past the end:");
+    text(b"array to one past the end:");
     references([0, 0, 0], [0, 0, 1], [2, 1, 2]);
-    print(b"rows 255:");
+    text(b"rows 255:");
     references([0, 0, 0], [0, 0, 0], [2, 255, 0]);
-    print(b"array past the indices:");
+    text(b"array past the indices:");
     plain(1, three(), [36, 0, 8, 4, 48, 0], 512);
 }
 
 fn entry_names() {
-    print(b"entry name 5:");
+    text(b"entry name 5:");
     plain(3, named(5), [52, 0, 8, 0, 0, 0], 512);
-    print(b"entry name 7:");
+    text(b"entry name 7:");
     plain(3, named(7), [52, 0, 8, 0, 0, 0], 512);
-    print(b"entry name 8:");
+    text(b"entry name 8:");
     plain(3, named(8), [52, 0, 8, 0, 0, 0], 512);
-    print(b"entry name 0, 4 bytes of strings:");
+    text(b"entry name 0, 4 bytes of strings:");
     plain(3, named(0), [52, 0, 4, 0, 0, 0], 512);
-    print(b"entry name 1, 4 bytes of strings:");
+    text(b"entry name 1, 4 bytes of strings:");
     plain(3, named(1), [52, 0, 4, 0, 0, 0], 512);
-    print(b"entry name 0, no strings:");
+    text(b"entry name 0, no strings:");
     plain(3, named(0), [52, 0, 0, 0, 0, 0], 512);
-    print(b"entry name 8 at edition 2:");
+    text(b"entry name 8 at edition 2:");
     plain(2, named(8), [48, 0, 8, 0, 0, 0], 512);
 }
 
 // ---- two refusals at once
 
 fn precedence() {
-    print(b"25 and 27:");
+    text(b"25 and 27:");
     plain(4, bare(1), [36, 0, 5, 0, 0, 0], 512);
-    print(b"25 and 28:");
+    text(b"25 and 28:");
     plain(4, bare(1), [36, 0, 0, 0, 0, 0], 0);
-    print(b"27 and 15:");
+    text(b"27 and 15:");
     plain(1, bare(16), [36, 0, 0, 0, 0, 4], 512);
-    print(b"27 and 28:");
+    text(b"27 and 28:");
     plain(1, bare(1), [36, 0, 5, 0, 0, 0], 0);
-    print(b"15 and 16:");
+    text(b"15 and 16:");
     plain(
         1,
         record(16, 2, 0, [0, 0, 0], 0, [0, 0, 0, 0]),
         [36, 0, 0, 0, 0, 0],
         512,
     );
-    print(b"15 and 28:");
+    text(b"15 and 28:");
     plain(1, bare(16), [36, 0, 0, 0, 0, 0], 0);
-    print(b"16 and 17:");
+    text(b"16 and 17:");
     plain(
         1,
         record(1, 2, 0, [0, 0, 0], 0, [0, 1, 0, 0]),
         [36, 0, 0, 0, 0, 0],
         512,
     );
-    print(b"17 and 22:");
+    text(b"17 and 22:");
     plain(
         1,
         record(1, 0, 0, [1, 0, 0], 0, [0, 1, 0, 0]),
@@ -524,76 +417,72 @@ fn entry_and_element() -> [u8; 52] {
 
 fn later_precedence() {
     let r = entry_and_element();
-    print(b"22 and 24:");
+    text(b"22 and 24:");
     let e = elements([8, 0, 0], [0, 0, 0], [1, 1, 1]);
     case(3, &r, &e, [52, 0, 8, 8, 16, 0], 512);
-    print(b"23 and 24:");
+    text(b"23 and 24:");
     let f = elements([0, 0, 0], [2, 0, 0], [1, 1, 1]);
     case(3, &r, &f, [52, 0, 8, 8, 16, 0], 512);
-    print(b"23 and 28:");
+    text(b"23 and 28:");
     case(3, &r, &f, [52, 0, 8, 8, 16, 0], 0);
-    print(b"24 and 28:");
+    text(b"24 and 28:");
     plain(3, r, [52, 0, 8, 8, 16, 0], 0);
 }
 
 // ---- 2: resources, strings and indices from the same zeros, of 16,777,216 bytes with their counts and the record of edition 1
 
 fn large(r: &[u8; 52], zeros: &[u8; 5592400], indices: usize) {
-    run(
-        1,
-        front(r, 36),
-        front(zeros, 5592400),
-        front(zeros, 5592380),
-        front(zeros, indices),
-        front(zeros, 0),
-        front(zeros, 0),
-        512,
-    );
+    let given = Sections {
+        runtime: stretch(r, 0, 36),
+        resources: zeros,
+        strings: stretch(zeros, 0, 5592380),
+        indices: stretch(zeros, 0, indices),
+        elements: b"",
+        masks: b"",
+    };
+    run(1, given, 512);
 }
 
 fn limit() {
     let zeros = [0u8; 5592400];
     let r = bare(1);
     let bad = bare(16);
-    print(b"16777216 bytes:");
+    text(b"16777216 bytes:");
     large(&r, &zeros, 5592380);
-    print(b"16777220 bytes:");
+    text(b"16777220 bytes:");
     large(&r, &zeros, 5592384);
-    print(b"16777220 bytes, stage 16:");
+    text(b"16777220 bytes, stage 16:");
     large(&bad, &zeros, 5592384);
-    print(b"16777221 bytes:");
+    text(b"16777221 bytes:");
     large(&r, &zeros, 5592385);
 }
 
 // ---- bytes
 
-fn bytes(edition: usize, r: &[u8], s: &[u8], t: &[u8]) {
+fn bytes(edition: usize, runtime: &[u8], resources: &[u8], strings: &[u8]) {
     let mut out = [170u8; 512];
-    let written = attempt(
-        edition,
-        r,
-        s,
-        t,
-        front(s, 0),
-        front(s, 0),
-        front(s, 0),
-        &mut out,
-        512,
-    );
-    dump(front(&out, written.len));
+    let given = Sections {
+        runtime,
+        resources,
+        strings,
+        indices: b"",
+        elements: b"",
+        masks: b"",
+    };
+    match given.write(edition, &mut out) {
+        Err(r) => refused(r),
+        Ok(len) => dump(stretch(&out, 0, len)),
+    }
 }
 
 fn all_bytes() {
     let r = [1u8; 24];
-    let s = [7u8; 16];
-    print(b"bytes at edition 0:");
-    bytes(0, &r, front(&s, 0), front(&s, 0));
-    print(b"bytes with a resource:");
-    bytes(0, &r, &s, front(&s, 0));
-    let c = named(1);
-    let t = [0u8, 109, 97, 105, 110, 0, 0, 0];
-    print(b"bytes at edition 3:");
-    bytes(3, &c, front(&s, 0), &t);
+    text(b"bytes at edition 0:");
+    bytes(0, &r, b"", b"");
+    text(b"bytes with a resource:");
+    bytes(0, &r, &[7u8; 16], b"");
+    text(b"bytes at edition 3:");
+    bytes(3, &named(1), b"", b"\x00main\x00\x00\x00");
 }
 
 fn main() {

@@ -1,162 +1,138 @@
 -- Spans and signatures that cross the boundary.
 -- Assumes nothing.
+use Rattle.std.specs.Prelude.{Option, Some, None, Result, Ok, Err}
 use Prim.Native.Nat.{ℕ, ◌≤◌, ◌<◌}
-use mathlib.Core.Path.{◌≡◌, refl, ◌∙◌, ap}
-use mathlib.Core.Bool.{true}
-use mathlib.Core.List.{List}
+use mathlib.Core.Path.{◌≡◌, refl, sym, ◌∙◌, ap}
+use mathlib.Core.Bool.{Bool, true, false}
+use mathlib.Core.List.{List, []}
 use native.Mathlib.Omega.{arith}
 use lib.Dec.{ltb}
-use borrow.Author.Tests.{lt-ltb, le-ltb}
-use Rattle.wire.specs.declared.Verdict.{Verdict}
-use Rattle.wire.specs.declared.Verdict.TheVariants.{Accepted, Refused}
+use Rattle.wire.specs.declared.Refusal.{Refusal}
+use Rattle.wire.specs.Verdict.{Verdict, Accepted, Refused, verdict_of}
 use Rattle.constants.specs.Edition.{file_edition_of}
 use Rattle.constants.proofs.Editions.{edition_few}
 use Rattle.wire.specs.Number.{u32_at}
 use Rattle.part_table_layout.specs.Table.{count_of}
 use Rattle.part_table_layout.proofs.Accepted.{accepted_told}
-use Rattle.container.specs.Opened.{container_opening_of, placed_if, container_places_of}
-use Rattle.container.proofs.Queries.{opening_verdict}
+use Rattle.wire.specs.Choice.{choose}
+use Rattle.wire.proofs.Verdicts.{accepted_by, value_by}
+use Rattle.container.specs.Opened.{container_opening_of, container_places_of}
+use Rattle.container.proofs.Queries.{opening_refused, opening_accepted}
 use Rattle.container.specs.declared.ContainerOpening.{ContainerOpening}
 use Rattle.container.specs.declared.ContainerPlaces.{ContainerPlaces}
 use Rattle.container_layout.specs.Container.{psv_of, container_judged}
-use Rattle.container_layout.specs.Placed.{container_places}
 use Rattle.container_layout.proofs.Containers.{before_told, opened_told}
 use Rattle.places_layout.specs.Answers.{SectionBy}
 use Rattle.places_layout.specs.Placed.{opened_places}
 use Rattle.places_layout.specs.declared.PlacesAnswer.{PlacesAnswer}
 use Rattle.places_layout.specs.declared.SectionPlaces.{SectionPlaces}
-use Rattle.psv0_layout.specs.Judged.{opened}
-use Rattle.psv0_layout.proofs.Spans.{refused_shows}
-use Rattle.psv0_layout.specs.Answers.{number_beside, bytes_of, bytes_beside, section_of, refused_span, SpanShows}
-use Rattle.psv0_layout.specs.declared.Points.{Points}
+use Rattle.psv0_layout.proofs.Spans.{nothing_shows}
+use Rattle.psv0_layout.specs.Answers.{bytes_of, bytes_beside, section_of, SpanOf, SpanShows}
+use Rattle.psv0_layout.specs.declared.Section.{Section}
 use Rattle.psv0_layout.specs.declared.Span.{Span}
 use Rattle.psv0_layout.specs.Handed.{handed}
 use Rattle.psv0_layout.specs.Shown.{Value, queried}
-use Rattle.psv0_writer_layout.specs.Written.{length_if}
 use Rattle.replacing_layout.specs.Answer.{replacement_of}
-use Rattle.replacing_layout.specs.Judged.{replacing_judged}
-use Rattle.replacing_layout.specs.Replaced.{replaced}
 use Rattle.replacing_layout.specs.declared.Replacement.{Replacement}
 use Rattle.replacing_layout.proofs.Replacing.{passed_told}
-use Rattle.signature_layout.specs.Signature.{refused_element, view_of}
-use Rattle.signature_layout.specs.declared.SignatureAnswer.{SignatureAnswer}
-use Rattle.signature_report_layout.specs.Reported.{signature_report_of, element_report_of, difference_of}
-use Rattle.signature_report_layout.specs.declared.DifferenceReport.{DifferenceReport}
-use Rattle.signature_report_layout.specs.declared.SignaturePart.{SignaturePart}
-use Rattle.signature_report_layout.specs.declared.SignatureReport.{SignatureReport}
-use Rattle.qollqamir.specs.Boundary.{c_verdict, is_string_of, points_number, c_span, c_signature_report, c_difference, part_numbered, no_part, report_numbered, element_numbered, difference_numbered, CShows, section_numbered, section_verdict, section_shown, placed_section}
-use Rattle.qollqamir.specs.declared.CDifference.{CDifference}
-use Rattle.qollqamir.specs.declared.CSignatureReport.{CSignatureReport}
+use Rattle.qollqamir.specs.Boundary.{is_string_of, points_number, c_span, no_part, CShows, section_numbered, section_verdict, section_shown, placed_section}
 use Rattle.qollqamir.specs.declared.CSpan.{CSpan}
-use Rattle.qollqamir.specs.declared.CVerdict.{CVerdict}
 
-pub crossed : {d : List ℕ} {v : Verdict} {l : List ℕ} {c : Points} {s : Span} {r : CSpan} → SpanShows d v l c s → r ≡ c_span s → CShows d v l c r
-unfolding c_span
-crossed h e =
-    rw e
-    (record {
-      verdict = ap c_verdict h.verdict;
-      inside = h.inside;
-      bytes = h.bytes;
-      refused = λ n p q. let z = h.refused n p q in (z.0, z.1, ap is_string_of z.2, ap points_number z.2);
-      string = ap is_string_of h.points;
-      points = ap points_number h.points;
-    })
+module _ {d : List ℕ} {v : Verdict} {l : List ℕ} {c : Option ℕ} where
+  span_crossed : {x : Span} → SpanOf d l c x → v ≡ Accepted → CShows d v l c (c_span (Ok x))
+  span_crossed {x} h e =
+      record {
+        verdict = rw e;
+        inside = h.inside;
+        bytes = h.bytes;
+        refused = λ n p q. absurd (let z : ◌≡◌ {A = ℕ} 0 1 = cc in omega arith);
+        string = ap is_string_of h.points;
+        points = ap points_number h.points;
+      }
 
-module _ (d : List ℕ) (o : Verdict) (er : ℕ) (a : List ℕ) (x : Value) {n : ℕ} {s : Span} {r : CSpan} where
-  pub no_section : 5 < n → SpanShows d (queried o x) (bytes_of x) Points.Unset s → r ≡ c_span s
-      → CShows d (section_verdict n o x) (section_shown n o er a x) Points.Unset r
-  unfolding section_verdict section_shown
-  no_section h g e = rw (le-ltb n 6 h) (crossed g e)
+  none_crossed : {q : Refusal} → (l ≡ []) × (c ≡ None) → v ≡ Refused q.number q.place → CShows d v l c (c_span (Err q))
+  none_crossed {q} h e =
+      record {
+        verdict = rw e;
+        inside = omega arith;
+        bytes = sym h.0;
+        refused = λ n p z. (refl, refl, refl, refl);
+        string = rw h.1;
+        points = rw h.1;
+      }
 
-  pub some_section : n ≤ 5 → SpanShows d o (bytes_beside o (handed er a (section_of (section_numbered n)))) Points.Unset s → r ≡ c_span s
-      → CShows d (section_verdict n o x) (section_shown n o er a x) Points.Unset r
-  unfolding section_verdict section_shown
-  some_section h g e = rw (lt-ltb n 6 (omega arith)) (crossed g e)
+  pub crossed : {s : Result Span Refusal} {r : CSpan} → SpanShows d v l c s → r ≡ c_span s → CShows d v l c r
+  unfolding verdict_of
+  crossed {s} h e = rw e (go s refl)
+    where
+      go : (t : Result Span Refusal) → s ≡ t → CShows d v l c (c_span t)
+      go (Ok x) q = span_crossed (h.shown q) (sym h.verdict ∙ ap verdict_of q)
+      go (Err u) q = none_crossed (h.refused q) (sym h.verdict ∙ ap verdict_of q)
 
--- ---- a signature part by its number n: no part where it is above 2
-module _ (k : ℕ) (b : List ℕ) {o : ContainerOpening} (ho : o ≡ container_opening_of k b) where
-  pub opening_refused : {n p : ℕ} → o.verdict ≡ Refused n p → refused_element n p ≡ no_part (container_judged k b)
-  opening_refused e = rw (← opening_verdict k b ho, e)
+-- ---- a number that names something or nothing: the test t tells which, and y is what it names
+module _ {A : Type 0} (y : A) {o : Option A} where
+  pub named : (t : Bool) → o ≡ choose t (Some y) None → {s : A} → o ≡ Some s → (t ≡ true) × (s ≡ y)
+  named true h e = (refl, let z : ◌≡◌ {A = Option A} (Some _) (Some y) = sym e ∙ h in cc)
+  named false h e = absurd (let z : ◌≡◌ {A = Option A} None (Some _) = sym h ∙ e in let w : ◌≡◌ {A = ℕ} 0 1 = cc in omega arith)
 
-  pub opening_accepted : o.verdict ≡ Accepted → refused_element 26 0 ≡ no_part (container_judged k b)
-  opening_accepted e = rw (← opening_verdict k b ho, e)
+  pub unnamed : (t : Bool) → o ≡ choose t (Some y) None → o ≡ None → t ≡ false
+  unnamed true h e = absurd (let z : ◌≡◌ {A = Option A} None (Some y) = sym e ∙ h in let w : ◌≡◌ {A = ℕ} 0 1 = cc in omega arith)
+  unnamed false h e = refl
 
-module _ (k : ℕ) (b : List ℕ) {n : ℕ} where
-  module _ (h : 2 < n) {a : SignatureAnswer} (ha : a ≡ no_part (container_judged k b)) {v : CVerdict} (hv : v ≡ c_verdict a.verdict) where
-    pub no_report : record { verdict = v; count = 0; start = 0; len = 0 } ≡ report_numbered n k b
-    unfolding report_numbered
-    no_report = rw (hv, ha, le-ltb n 3 h)
+  -- what is answered of the one and of the other
+  module _ {B : Type 0} (f : A → B) (x : B) {a : B} (t : Bool) (h : o ≡ choose t (Some y) None) where
+    pub answered_named : {s : A} → o ≡ Some s → a ≡ f s → a ≡ choose t (f y) x
+    answered_named e q = let z = named t h e in q ∙ rw (z.0, z.1)
 
-    pub no_difference : record { verdict = v; found = 0; number = 0 } ≡ difference_numbered n k b
-    unfolding difference_numbered
-    no_difference = rw (hv, ha, le-ltb n 3 h)
+    pub answered_unnamed : o ≡ None → a ≡ x → a ≡ choose t (f y) x
+    answered_unnamed e q = let z = unnamed t h e in q ∙ rw z
 
-  module _ (h : n ≤ 2) {s : SignaturePart} (hs : s ≡ part_numbered n) where
-    below : ltb n 3 ≡ true
-    below = lt-ltb n 3 (omega arith)
+-- ---- a section by its number n
+module _ (n : ℕ) {q : Option Section} (hq : q ≡ choose (ltb n 6) (Some (section_numbered n)) None) {s : Result Span Refusal} {r : CSpan} (hr : r ≡ c_span s) where
+  module _ (d : List ℕ) (o : Verdict) (er : ℕ) (a : List ℕ) (x : Value) where
+    pub no_section : q ≡ None → SpanShows d (queried o x) (bytes_of x) None s → CShows d (section_verdict n o x) (section_shown n o er a x) None r
+    unfolding section_verdict section_shown
+    no_section e g = let z = unnamed (section_numbered n) (ltb n 6) hq e in rw z (crossed g hr)
 
-    pub report_crossed : {a : SignatureReport} {r : CSignatureReport} → a ≡ signature_report_of s k b → r ≡ c_signature_report a → r ≡ report_numbered n k b
-    unfolding report_numbered
-    report_crossed ha hr = hr ∙ rw (ha, hs, below)
+    pub some_section : {t : Section} → q ≡ Some t → SpanShows d o (bytes_beside o (handed er a (section_of t))) None s
+        → CShows d (section_verdict n o x) (section_shown n o er a x) None r
+    unfolding section_verdict section_shown
+    some_section e g = let z = named (section_numbered n) (ltb n 6) hq e in rw z.0 (crossed (rw z.1 at g) hr)
 
-    pub difference_crossed : {a : DifferenceReport} {r : CDifference} → a ≡ difference_of s k b → r ≡ c_difference a → r ≡ difference_numbered n k b
-    unfolding difference_numbered
-    difference_crossed ha hr = hr ∙ rw (ha, hs, below)
+  -- the same by places
+  module _ (p : SectionPlaces) (b : List ℕ) where
+    pub no_placed_section : q ≡ None → s ≡ Err (record { number = 26; place = 0 })
+        → CShows b (placed_section n p b).verdict (bytes_of (placed_section n p b).value) None r
+    unfolding placed_section
+    no_placed_section e g = let z = unnamed (section_numbered n) (ltb n 6) hq e in rw z (crossed (nothing_shows b g refl) hr)
 
-module _ (k : ℕ) (b : List ℕ) (i : ℕ) {n : ℕ} where
-  pub no_element_lem : 2 < n → {a : SignatureAnswer} → a ≡ no_part (container_judged k b) → a ≡ element_numbered n k b i
-  unfolding element_numbered
-  no_element_lem h ha = ha ∙ rw (le-ltb n 3 h)
+    pub some_placed_section : {t : Section} → q ≡ Some t → SectionBy p b t s
+        → CShows b (placed_section n p b).verdict (bytes_of (placed_section n p b).value) None r
+    unfolding placed_section
+    some_placed_section e g = let z = named (section_numbered n) (ltb n 6) hq e in rw z.0 (crossed (rw z.1 at g) hr)
 
-  module _ (h : n ≤ 2) {s : SignaturePart} (hs : s ≡ part_numbered n) where
-    element_is : element_report_of s k b i ≡ element_numbered n k b i
-    unfolding element_numbered
-    element_is = let l = lt-ltb n 3 (omega arith) in rw (hs, l)
+-- ---- what a number that names no signature part is answered with, by what opening gives, o
+module _ (k : ℕ) (b : List ℕ) {o : Result ContainerOpening Refusal} (ho : o ≡ container_opening_of k b) where
+  pub no_part_refused : {e : Refusal} → o ≡ Err e → e ≡ no_part (container_judged k b)
+  no_part_refused e = rw (opening_refused k b ho e)
 
-    pub element_crossed : {a : SignatureAnswer} → a ≡ element_report_of s k b i → a ≡ element_numbered n k b i
-    element_crossed ha = ha ∙ element_is
-
-    pub name_crossed : {a : Span} → a ≡ view_of (element_report_of s k b i) → a ≡ view_of (element_numbered n k b i)
-    name_crossed ha = ha ∙ ap (λ (q : SignatureAnswer). view_of q) element_is
+  pub no_part_opened : {x : ContainerOpening} → o ≡ Ok x → record { number = 26; place = 0 } ≡ no_part (container_judged k b)
+  no_part_opened e = rw (opening_accepted k b ho e)
 
 -- ---- an opening with places: its numbers are small
-file_small : (v : Verdict) (s : ℕ) → number_beside v (file_edition_of s) < 4294967296
-file_small Accepted s = omega (arith, edition_few s)
-file_small (Refused n p) s = omega arith
-
-pub psv_opened_small : (k : ℕ) (d : List ℕ) {o : PlacesAnswer} → o ≡ opened_places k d → o.file_edition < 4294967296
+pub psv_opened_small : (k : ℕ) (d : List ℕ) {w : Result PlacesAnswer Refusal} → w ≡ opened_places k d → {o : PlacesAnswer} → w ≡ Ok o → o.file_edition < 4294967296
 unfolding opened_places
-psv_opened_small k d e = rw e (file_small (opened k d) (u32_at d 0))
+psv_opened_small k d h e = rw (value_by _ _ h e) (omega (arith, edition_few (u32_at d 0)))
 
-pub opened_small : (k : ℕ) (b : List ℕ) {o : ContainerPlaces} → o ≡ container_places_of k b → (o.parts < 4294967296) × (o.file_edition < 4294967296)
+pub opened_small : (k : ℕ) (b : List ℕ) {w : Result ContainerPlaces Refusal} → w ≡ container_places_of k b → {o : ContainerPlaces} → w ≡ Ok o
+    → (o.parts < 4294967296) × (o.file_edition < 4294967296)
 unfolding container_places_of
-opened_small k b e = rw e (go (container_judged k b) refl)
-  where
-    go : (v : Verdict) → container_judged k b ≡ v
-        → ((placed_if v (count_of b) (file_edition_of (u32_at (psv_of b) 0)) (container_places k b)).parts < 4294967296)
-        × ((placed_if v (count_of b) (file_edition_of (u32_at (psv_of b) 0)) (container_places k b)).file_edition < 4294967296)
-    go Accepted h =
-        let few = (accepted_told b (before_told k b (opened_told k b h).0).table).header.few in
-        (omega arith, omega (arith, edition_few (u32_at (psv_of b) 0)))
-    go (Refused n p) h = (omega arith, omega arith)
-
--- ---- a section by places
-pub no_placed_section : (n : ℕ) (p : SectionPlaces) (b : List ℕ) {s : Span} {r : CSpan} → 5 < n → s ≡ refused_span 26 0 → r ≡ c_span s
-    → CShows b (placed_section n p b).verdict (bytes_of (placed_section n p b).value) Points.Unset r
-unfolding placed_section
-no_placed_section n p b h g e = rw (le-ltb n 6 h) (crossed (rw g (refused_shows b 26 0)) e)
-
-pub some_placed_section : (n : ℕ) (p : SectionPlaces) (b : List ℕ) {s : Span} {r : CSpan} → n ≤ 5 → SectionBy p b (section_numbered n) s → r ≡ c_span s
-    → CShows b (placed_section n p b).verdict (bytes_of (placed_section n p b).value) Points.Unset r
-unfolding placed_section
-some_placed_section n p b h g e = rw (lt-ltb n 6 (omega arith)) (crossed g e)
+opened_small k b h e =
+    let few = (accepted_told b (before_told k b (opened_told k b (accepted_by _ _ h e)).0).table).header.few in
+    rw (value_by _ _ h e) (omega arith, omega (arith, edition_few (u32_at (psv_of b) 0)))
 
 -- ---- a container with other PSV0 data is no longer than the limit
-pub replaced_small : (k : ℕ) (b new : List ℕ) (room : ℕ) {a : Replacement} → a ≡ replacement_of k b new room → a.len < 4294967296
+pub replaced_small : (k : ℕ) (b new : List ℕ) (room : ℕ) {w : Result Replacement Refusal} → w ≡ replacement_of k b new room → {a : Replacement} → w ≡ Ok a
+    → a.len < 4294967296
 unfolding replacement_of
-replaced_small k b new room e = rw e (go (replacing_judged k b new room) refl)
-  where
-    go : (v : Verdict) → replacing_judged k b new room ≡ v → length_if v (replaced b new) < 4294967296
-    go Accepted h = omega (arith, (passed_told k b new room h).short)
-    go (Refused n p) h = omega arith
+replaced_small k b new room h e = rw (value_by _ _ h e) (omega (arith, (passed_told k b new room (accepted_by _ _ h e)).short))

@@ -3,7 +3,7 @@
 // No struct has padding: a field is as wide as its place, so that each byte of an answer is a byte of a field that the promise names.
 #![tactic(auto)]
 
-ghost use Rattle.std.specs.Prelude.{◌≡◌, ◌<◌, length};
+ghost use Rattle.std.specs.Prelude.{Ok, Some, ltb, ◌≡◌, ◌<◌, length};
 ghost use Rattle.assembler_layout.specs.Answer as assembly;
 ghost use Rattle.constants.specs.Edition.{file_edition_of};
 ghost use Rattle.constants.specs.Name.{is_known};
@@ -18,7 +18,7 @@ ghost use Rattle.part_table_layout.specs.Table.{table_of};
 ghost use Rattle.places_layout.specs.Answers.{shown_by, info_by, resource_by, element_by, lengths_by};
 ghost use Rattle.places_layout.specs.Placed.{opened_places};
 ghost use Rattle.places_layout.specs.Read.{answered_by};
-ghost use Rattle.psv0_layout.specs.Answers.{opening_of, info_answer_of, resource_answer_of, element_answer_of, lengths_answer_of, refused_info, refused_resource, refused_element, question_of, points_of, bytes_of, bytes_beside};
+ghost use Rattle.psv0_layout.specs.Answers.{opening_of, info_answer_of, resource_answer_of, element_answer_of, lengths_answer_of, question_of, points_of, bytes_of, bytes_beside};
 ghost use Rattle.psv0_layout.specs.Judged.{opened};
 ghost use Rattle.psv0_layout.specs.Layout.{edition_read_of, default_edition};
 ghost use Rattle.psv0_layout.specs.Shown.{answered, queried};
@@ -29,32 +29,30 @@ ghost use Rattle.root_signature_report_layout.specs.Reported.{root_report_of, it
 ghost use Rattle.settings_layout.specs.Given as settings_writing;
 ghost use Rattle.settings_layout.specs.Shown.{settings_of, row_answer_of, row_alone_of, setting_answer_of};
 ghost use Rattle.signature_layout.specs.Signature.{signature_of, element_of, alone_of, view_of as name_view};
+ghost use Rattle.wire.specs.Choice.{choose};
 ghost use Rattle.wire.specs.Number.{u32_at};
-ghost use Rattle.qollqamir.specs.Boundary.{c_verdict, c_field, pairs_field, c_table, c_part, c_opening, c_psv_opening, c_opened, c_psv_opened, placed_section, c_info, c_resource, c_element, c_lengths, is_string_of, points_number, c_span, c_written, c_replaced, c_assembly, stages_number, c_header, c_program, c_report, c_signature, c_signature_report, name_parts, c_signature_element, c_difference, part_numbered, no_part, report_numbered, element_numbered, difference_numbered, c_root, c_root_report, parameter_fields, c_item, c_range, c_settings, c_settings_row, c_settings_row_alone, setting_field, c_setting, c_settings_written, addition_number, addition_verdict, c_added, joining_number, c_joined, view_of, section_numbered, section_verdict, section_shown, CShows};
+ghost use Rattle.qollqamir.specs.Boundary.{c_refusal, c_field, pairs_field, not_opened, c_table, c_part, c_opening, c_psv_opening, c_opened, c_psv_opened, placed_section, c_info, c_resource, c_element, c_lengths, c_span, c_written, c_replaced, stages_number, c_header, c_program, c_report, c_signature, c_signature_report, c_signature_element, c_difference, part_numbered, no_part, report_numbered, element_numbered, difference_numbered, c_root, c_root_report, item_fields, c_item, c_range, c_settings, c_settings_row, c_settings_row_alone, c_setting, c_judged, c_added, c_joined, view_of, section_numbered, section_verdict, section_shown, CShows};
 
-use assembler_layout::Assembly;
-use container::{ContainerOpening, ContainerPlaces};
+use container::ContainerOpening;
 use dxil_layout::{Program, ProgramHeader};
 use dxil_report_layout::{ProgramReport, Stages};
-use figures_layout::{AddAnswer, Addition, Figures, JoinAnswer, Joining};
-use part_table_layout::{Found, Part, Table};
-use places_layout::{PlacesAnswer, SectionPlaces};
+use figures_layout::{Addition, Figures, Full, JoinError};
+use part_table_layout::{Part, Table};
+use places_layout::SectionPlaces;
 use psv0_layout::{
-    ElementAnswer, Field, InfoAnswer, LengthsAnswer, Opening, Points, ResourceAnswer, Section,
-    Span, View,
+    ElementRecord, ListLengths, Opening, ResourceRecord, RuntimeInfo, Section, Span, View,
 };
-use psv0_writer_layout::Written;
-use replacing_layout::Replacement;
-use root_signature_layout::{Item, ItemAnswer, RangeAnswer, RootSignature};
+use root_signature_layout::{DescriptorRange, Item, RootHeader};
 use root_signature_report_layout::RootReport;
-use settings_layout::{RowAlone, RowAnswer, Setting, SettingAnswer, Settings, SettingsWritten};
-use signature_layout::{Name, Signature, SignatureAnswer};
-use signature_report_layout::{DifferenceReport, SignaturePart, SignatureReport};
-use wire::Verdict;
+use settings_layout::{Row, RowAlone, Settings};
+use signature_layout::SignatureAnswer;
+use signature_report_layout::{SignaturePart, SignatureReport};
+use wire::Refusal;
 
+// Stays: each answer is a struct of C's header, with a conversion of its own from what the library answers (a: include/qollqamir.h).
 // A verdict: the refusal's number, 0 where the call accepts, and its place.
 #[repr(C)]
-#[derive(Clone, Copy)]
+#[derive(Clone, Copy, Default)]
 pub struct CVerdict {
     pub number: usize,
     pub place: usize,
@@ -62,7 +60,7 @@ pub struct CVerdict {
 
 // A value: 1 where it is set, 0 where it is not, and its number, 0 where it is not.
 #[repr(C)]
-#[derive(Clone, Copy)]
+#[derive(Clone, Copy, Default)]
 pub struct CField {
     pub set: u32,
     pub value: u32,
@@ -71,6 +69,7 @@ pub struct CField {
 const UNSET: CField = CField { set: 0, value: 0 };
 
 // A part table.
+// Stays: five arrays side by side, as C's header has them (a).
 #[repr(C)]
 #[derive(Clone, Copy)]
 pub struct CTable {
@@ -86,7 +85,7 @@ pub struct CTable {
 
 // A part: its number, where its header starts and its data size.
 #[repr(C)]
-#[derive(Clone, Copy)]
+#[derive(Clone, Copy, Default)]
 pub struct CPart {
     pub verdict: CVerdict,
     pub number: usize,
@@ -96,7 +95,7 @@ pub struct CPart {
 
 // An opening: the number of parts, the file's edition and the edition read.
 #[repr(C)]
-#[derive(Clone, Copy)]
+#[derive(Clone, Copy, Default)]
 pub struct COpening {
     pub verdict: CVerdict,
     pub parts: usize,
@@ -117,7 +116,7 @@ pub struct COpened {
 
 // The fields of the runtime record.
 #[repr(C)]
-#[derive(Clone, Copy)]
+#[derive(Clone, Copy, Default)]
 pub struct CInfo {
     pub verdict: CVerdict,
     pub minimum_wave_lanes: CField,
@@ -143,7 +142,7 @@ pub struct CInfo {
 
 // A resource binding's record.
 #[repr(C)]
-#[derive(Clone, Copy)]
+#[derive(Clone, Copy, Default)]
 pub struct CResource {
     pub verdict: CVerdict,
     pub binding_type: CField,
@@ -156,7 +155,7 @@ pub struct CResource {
 
 // A signature element's record.
 #[repr(C)]
-#[derive(Clone, Copy)]
+#[derive(Clone, Copy, Default)]
 pub struct CElement {
     pub verdict: CVerdict,
     pub name_offset: CField,
@@ -176,7 +175,7 @@ pub struct CElement {
 
 // The lists' lengths.
 #[repr(C)]
-#[derive(Clone, Copy)]
+#[derive(Clone, Copy, Default)]
 pub struct CLengths {
     pub verdict: CVerdict,
     pub resources: CField,
@@ -187,7 +186,7 @@ pub struct CLengths {
 
 // A stretch of the caller's bytes. Where it is a string, 1 and its code points; else zeros.
 #[repr(C)]
-#[derive(Clone, Copy)]
+#[derive(Clone, Copy, Default)]
 pub struct CSpan {
     pub verdict: CVerdict,
     pub start: usize,
@@ -198,7 +197,7 @@ pub struct CSpan {
 
 // What a writer did: the length of its result.
 #[repr(C)]
-#[derive(Clone, Copy)]
+#[derive(Clone, Copy, Default)]
 pub struct CWritten {
     pub verdict: CVerdict,
     pub len: usize,
@@ -215,7 +214,7 @@ pub struct CReplaced {
 
 // The fields of the program header and of the bitcode header.
 #[repr(C)]
-#[derive(Clone, Copy)]
+#[derive(Clone, Copy, Default)]
 pub struct CHeader {
     pub version_major: u32,
     pub version_minor: u32,
@@ -229,7 +228,7 @@ pub struct CHeader {
 
 // The data of a DXIL part: the header's fields, and the bitcode as a stretch of them.
 #[repr(C)]
-#[derive(Clone, Copy)]
+#[derive(Clone, Copy, Default)]
 pub struct CProgram {
     pub verdict: CVerdict,
     pub header: CHeader,
@@ -239,7 +238,7 @@ pub struct CProgram {
 
 // The report on a container's DXIL part: the bitcode as a stretch of the container, the stage that PSV0 shows, and how the stages compare.
 #[repr(C)]
-#[derive(Clone, Copy)]
+#[derive(Clone, Copy, Default)]
 pub struct CReport {
     pub verdict: CVerdict,
     pub header: CHeader,
@@ -259,7 +258,7 @@ pub struct CSignature {
 
 // The report on a signature part: its element count, and its data as a stretch of the container.
 #[repr(C)]
-#[derive(Clone, Copy)]
+#[derive(Clone, Copy, Default)]
 pub struct CSignatureReport {
     pub verdict: CVerdict,
     pub count: usize,
@@ -269,7 +268,7 @@ pub struct CSignatureReport {
 
 // A signature element, and its name: 1 where it has one, 0 where it has none, where it starts, its length and its code points.
 #[repr(C)]
-#[derive(Clone, Copy)]
+#[derive(Clone, Copy, Default)]
 pub struct CSignatureElement {
     pub verdict: CVerdict,
     pub stream: u32,
@@ -289,7 +288,7 @@ pub struct CSignatureElement {
 
 // The first element that differs: 1 and its number, 0 and 0 where there is none.
 #[repr(C)]
-#[derive(Clone, Copy)]
+#[derive(Clone, Copy, Default)]
 pub struct CDifference {
     pub verdict: CVerdict,
     pub found: usize,
@@ -298,7 +297,7 @@ pub struct CDifference {
 
 // A root signature: its header.
 #[repr(C)]
-#[derive(Clone, Copy)]
+#[derive(Clone, Copy, Default)]
 pub struct CRoot {
     pub verdict: CVerdict,
     pub version: u32,
@@ -309,7 +308,7 @@ pub struct CRoot {
 
 // The report on a root signature: its header, and the part's data as a stretch of the container.
 #[repr(C)]
-#[derive(Clone, Copy)]
+#[derive(Clone, Copy, Default)]
 pub struct CRootReport {
     pub verdict: CVerdict,
     pub version: u32,
@@ -323,7 +322,7 @@ pub struct CRootReport {
 // An item of a root signature: the parameter's type, unset for a static sampler, and the values of its case; the others have zeros. The three
 // levels of detail cross as the file's bits, whatever they are: a caller's float has the same bytes.
 #[repr(C)]
-#[derive(Clone, Copy)]
+#[derive(Clone, Copy, Default)]
 pub struct CItem {
     pub verdict: CVerdict,
     pub parameter_type: CField,
@@ -348,7 +347,7 @@ pub struct CItem {
 
 // A range of a table.
 #[repr(C)]
-#[derive(Clone, Copy)]
+#[derive(Clone, Copy, Default)]
 pub struct CRange {
     pub verdict: CVerdict,
     pub range_type: u32,
@@ -361,7 +360,7 @@ pub struct CRange {
 
 // A settings file: its number of rows, and where the first begins.
 #[repr(C)]
-#[derive(Clone, Copy)]
+#[derive(Clone, Copy, Default)]
 pub struct CSettings {
     pub verdict: CVerdict,
     pub rows: usize,
@@ -370,7 +369,7 @@ pub struct CSettings {
 
 // A row of a settings file.
 #[repr(C)]
-#[derive(Clone, Copy)]
+#[derive(Clone, Copy, Default)]
 pub struct CSettingsRow {
     pub verdict: CVerdict,
     pub version: u32,
@@ -380,7 +379,7 @@ pub struct CSettingsRow {
 
 // A row of a settings file by itself, and where it ends.
 #[repr(C)]
-#[derive(Clone, Copy)]
+#[derive(Clone, Copy, Default)]
 pub struct CSettingsRowAlone {
     pub verdict: CVerdict,
     pub version: u32,
@@ -391,7 +390,7 @@ pub struct CSettingsRowAlone {
 
 // The value of a key at a version.
 #[repr(C)]
-#[derive(Clone, Copy)]
+#[derive(Clone, Copy, Default)]
 pub struct CSetting {
     pub verdict: CVerdict,
     pub setting: CField,
@@ -414,224 +413,152 @@ pub struct CJoined {
     pub figures: Figures,
 }
 
-fn c_verdict(v: Verdict) -> CVerdict
-    ensures { result ≡ c_verdict v }
-{
-    match v {
-        Verdict::Accepted => CVerdict {
-            number: 0,
-            place: 0,
-        },
-        Verdict::Refused(number, place) => CVerdict {
-            number: number as usize,
-            place,
-        },
+impl From<Refusal> for CVerdict {
+    ghost from_gives = { λ r c. c ≡ c_refusal r };
+
+    fn from(r: Refusal) -> CVerdict {
+        CVerdict {
+            number: usize::from(r.number),
+            place: r.place,
+        }
     }
 }
 
-fn c_field(f: Field) -> CField
-    ensures { result ≡ c_field f }
-{
-    match f {
-        Field::Set(value) => CField { set: 1, value },
-        Field::Unset => UNSET,
+// Zeros where there is no refusal.
+impl From<Result<(), Refusal>> for CVerdict {
+    ghost from_gives = { λ a c. c ≡ c_judged a };
+
+    #[tactic(auto, unfolding(crate::specs::Boundary::c_judged))]
+    fn from(a: Result<(), Refusal>) -> CVerdict {
+        match a {
+            Ok(()) => CVerdict::default(),
+            Err(r) => r.into(),
+        }
     }
 }
 
-fn c_info(a: InfoAnswer) -> CInfo
-    ensures { result ≡ c_info a }
-{
-    let v = a.verdict;
-    let x = a.info;
-    let minimum_wave_lanes = x.minimum_wave_lanes;
-    let maximum_wave_lanes = x.maximum_wave_lanes;
-    let stage = x.stage;
-    let uses_view_id = x.uses_view_id;
-    let max_vertex_count = x.max_vertex_count;
-    let patch_vectors = x.patch_vectors;
-    let mesh_topology = x.mesh_topology;
-    let input_elements = x.input_elements;
-    let output_elements = x.output_elements;
-    let patch_elements = x.patch_elements;
-    let input_vectors = x.input_vectors;
-    let output_vectors_0 = x.output_vectors_0;
-    let output_vectors_1 = x.output_vectors_1;
-    let output_vectors_2 = x.output_vectors_2;
-    let output_vectors_3 = x.output_vectors_3;
-    let threads_x = x.threads_x;
-    let threads_y = x.threads_y;
-    let threads_z = x.threads_z;
-    let entry_name_offset = x.entry_name_offset;
-    CInfo {
-        verdict: c_verdict(v),
-        minimum_wave_lanes: c_field(minimum_wave_lanes),
-        maximum_wave_lanes: c_field(maximum_wave_lanes),
-        stage: c_field(stage),
-        uses_view_id: c_field(uses_view_id),
-        max_vertex_count: c_field(max_vertex_count),
-        patch_vectors: c_field(patch_vectors),
-        mesh_topology: c_field(mesh_topology),
-        input_elements: c_field(input_elements),
-        output_elements: c_field(output_elements),
-        patch_elements: c_field(patch_elements),
-        input_vectors: c_field(input_vectors),
-        output_vectors_0: c_field(output_vectors_0),
-        output_vectors_1: c_field(output_vectors_1),
-        output_vectors_2: c_field(output_vectors_2),
-        output_vectors_3: c_field(output_vectors_3),
-        threads_x: c_field(threads_x),
-        threads_y: c_field(threads_y),
-        threads_z: c_field(threads_z),
-        entry_name_offset: c_field(entry_name_offset),
+impl From<Option<u32>> for CField {
+    ghost from_gives = { λ f c. c ≡ c_field f };
+
+    fn from(f: Option<u32>) -> CField {
+        match f {
+            Some(value) => CField { set: 1, value },
+            None => UNSET,
+        }
     }
 }
 
-fn c_resource(a: ResourceAnswer) -> CResource
-    ensures { result ≡ c_resource a }
-{
-    let v = a.verdict;
-    let x = a.resource;
-    let binding_type = x.binding_type;
-    let space = x.space;
-    let lower_bound = x.lower_bound;
-    let upper_bound = x.upper_bound;
-    let kind = x.kind;
-    let flags = x.flags;
-    CResource {
-        verdict: c_verdict(v),
-        binding_type: c_field(binding_type),
-        space: c_field(space),
-        lower_bound: c_field(lower_bound),
-        upper_bound: c_field(upper_bound),
-        kind: c_field(kind),
-        flags: c_field(flags),
+impl From<Result<RuntimeInfo, Refusal>> for CInfo {
+    ghost from_gives = { λ a c. c ≡ c_info a };
+
+    fn from(a: Result<RuntimeInfo, Refusal>) -> CInfo {
+        match a {
+            Ok(x) => CInfo {
+                verdict: CVerdict::default(),
+                minimum_wave_lanes: x.minimum_wave_lanes.into(),
+                maximum_wave_lanes: x.maximum_wave_lanes.into(),
+                stage: x.stage.into(),
+                uses_view_id: x.uses_view_id.into(),
+                max_vertex_count: x.max_vertex_count.into(),
+                patch_vectors: x.patch_vectors.into(),
+                mesh_topology: x.mesh_topology.into(),
+                input_elements: x.input_elements.into(),
+                output_elements: x.output_elements.into(),
+                patch_elements: x.patch_elements.into(),
+                input_vectors: x.input_vectors.into(),
+                output_vectors_0: x.output_vectors_0.into(),
+                output_vectors_1: x.output_vectors_1.into(),
+                output_vectors_2: x.output_vectors_2.into(),
+                output_vectors_3: x.output_vectors_3.into(),
+                threads_x: x.threads_x.into(),
+                threads_y: x.threads_y.into(),
+                threads_z: x.threads_z.into(),
+                entry_name_offset: x.entry_name_offset.into(),
+            },
+            Err(r) => CInfo {
+                verdict: r.into(),
+                ..CInfo::default()
+            },
+        }
     }
 }
 
-fn c_element(a: ElementAnswer) -> CElement
-    ensures { result ≡ c_element a }
-{
-    let v = a.verdict;
-    let x = a.element;
-    let name_offset = x.name_offset;
-    let index_reference = x.index_reference;
-    let rows = x.rows;
-    let start_row = x.start_row;
-    let columns = x.columns;
-    let start_column = x.start_column;
-    let allocated = x.allocated;
-    let semantic_kind = x.semantic_kind;
-    let component_type = x.component_type;
-    let interpolation = x.interpolation;
-    let dynamic_mask = x.dynamic_mask;
-    let stream = x.stream;
-    let reserved = x.reserved;
-    CElement {
-        verdict: c_verdict(v),
-        name_offset: c_field(name_offset),
-        index_reference: c_field(index_reference),
-        rows: c_field(rows),
-        start_row: c_field(start_row),
-        columns: c_field(columns),
-        start_column: c_field(start_column),
-        allocated: c_field(allocated),
-        semantic_kind: c_field(semantic_kind),
-        component_type: c_field(component_type),
-        interpolation: c_field(interpolation),
-        dynamic_mask: c_field(dynamic_mask),
-        stream: c_field(stream),
-        reserved: c_field(reserved),
+impl From<Result<ResourceRecord, Refusal>> for CResource {
+    ghost from_gives = { λ a c. c ≡ c_resource a };
+
+    fn from(a: Result<ResourceRecord, Refusal>) -> CResource {
+        match a {
+            Ok(x) => CResource {
+                verdict: CVerdict::default(),
+                binding_type: x.binding_type.into(),
+                space: x.space.into(),
+                lower_bound: x.lower_bound.into(),
+                upper_bound: x.upper_bound.into(),
+                kind: x.kind.into(),
+                flags: x.flags.into(),
+            },
+            Err(r) => CResource {
+                verdict: r.into(),
+                ..CResource::default()
+            },
+        }
     }
 }
 
-fn c_lengths(a: LengthsAnswer) -> CLengths
-    ensures { result ≡ c_lengths a }
-{
-    let v = a.verdict;
-    let x = a.lengths;
-    let resources = x.resources;
-    let strings = x.strings;
-    let indices = x.indices;
-    let elements = x.elements;
-    CLengths {
-        verdict: c_verdict(v),
-        resources: c_field(resources),
-        strings: c_field(strings),
-        indices: c_field(indices),
-        elements: c_field(elements),
+impl From<Result<ElementRecord, Refusal>> for CElement {
+    ghost from_gives = { λ a c. c ≡ c_element a };
+
+    fn from(a: Result<ElementRecord, Refusal>) -> CElement {
+        match a {
+            Ok(x) => CElement {
+                verdict: CVerdict::default(),
+                name_offset: x.name_offset.into(),
+                index_reference: x.index_reference.into(),
+                rows: x.rows.into(),
+                start_row: x.start_row.into(),
+                columns: x.columns.into(),
+                start_column: x.start_column.into(),
+                allocated: x.allocated.into(),
+                semantic_kind: x.semantic_kind.into(),
+                component_type: x.component_type.into(),
+                interpolation: x.interpolation.into(),
+                dynamic_mask: x.dynamic_mask.into(),
+                stream: x.stream.into(),
+                reserved: x.reserved.into(),
+            },
+            Err(r) => CElement {
+                verdict: r.into(),
+                ..CElement::default()
+            },
+        }
     }
 }
 
-// What crosses where a query refuses, written at once: to make it of fields that are unset takes longer than to refuse.
-// c_info's answer has a name of its own, `shown`, so that the refusal is written in place and not copied.
-fn no_info(number: u8, place: usize) -> CInfo
-    ensures { result ≡ c_info (refused_info number place) }
-{
-    CInfo {
-        verdict: CVerdict {
-            number: number as usize,
-            place,
-        },
-        minimum_wave_lanes: UNSET,
-        maximum_wave_lanes: UNSET,
-        stage: UNSET,
-        uses_view_id: UNSET,
-        max_vertex_count: UNSET,
-        patch_vectors: UNSET,
-        mesh_topology: UNSET,
-        input_elements: UNSET,
-        output_elements: UNSET,
-        patch_elements: UNSET,
-        input_vectors: UNSET,
-        output_vectors_0: UNSET,
-        output_vectors_1: UNSET,
-        output_vectors_2: UNSET,
-        output_vectors_3: UNSET,
-        threads_x: UNSET,
-        threads_y: UNSET,
-        threads_z: UNSET,
-        entry_name_offset: UNSET,
+impl From<ListLengths> for CLengths {
+    ghost from_gives = { λ x c. c ≡ c_lengths (Ok x) };
+
+    fn from(x: ListLengths) -> CLengths {
+        CLengths {
+            verdict: CVerdict::default(),
+            resources: x.resources.into(),
+            strings: x.strings.into(),
+            indices: x.indices.into(),
+            elements: x.elements.into(),
+        }
     }
 }
 
-fn no_resource(number: u8, place: usize) -> CResource
-    ensures { result ≡ c_resource (refused_resource number place) }
-{
-    CResource {
-        verdict: CVerdict {
-            number: number as usize,
-            place,
-        },
-        binding_type: UNSET,
-        space: UNSET,
-        lower_bound: UNSET,
-        upper_bound: UNSET,
-        kind: UNSET,
-        flags: UNSET,
-    }
-}
+impl From<Result<ListLengths, Refusal>> for CLengths {
+    ghost from_gives = { λ a c. c ≡ c_lengths a };
 
-fn no_element(number: u8, place: usize) -> CElement
-    ensures { result ≡ c_element (refused_element number place) }
-{
-    CElement {
-        verdict: CVerdict {
-            number: number as usize,
-            place,
-        },
-        name_offset: UNSET,
-        index_reference: UNSET,
-        rows: UNSET,
-        start_row: UNSET,
-        columns: UNSET,
-        start_column: UNSET,
-        allocated: UNSET,
-        semantic_kind: UNSET,
-        component_type: UNSET,
-        interpolation: UNSET,
-        dynamic_mask: UNSET,
-        stream: UNSET,
-        reserved: UNSET,
+    fn from(a: Result<ListLengths, Refusal>) -> CLengths {
+        match a {
+            Ok(x) => x.into(),
+            Err(r) => CLengths {
+                verdict: r.into(),
+                ..CLengths::default()
+            },
+        }
     }
 }
 
@@ -639,194 +566,174 @@ fn no_element(number: u8, place: usize) -> CElement
 fn c_pairs(counted: bool, pairs: u32) -> CField
     ensures { result ≡ c_field (pairs_field counted pairs) }
 {
-    if counted {
-        return CField {
-            set: 1,
-            value: pairs,
-        };
-    }
-    UNSET
+    if counted { Some(pairs).into() } else { UNSET }
 }
 
-fn c_table(t: Table) -> CTable
-    ensures { result ≡ c_table t }
-{
-    let v = t.verdict;
-    let names = t.names;
-    let offsets = t.offsets;
-    let sizes = t.sizes;
-    let occurrences = t.occurrences;
-    let gaps = t.gaps;
-    CTable {
-        verdict: c_verdict(v),
-        count: t.count,
-        pairs: c_pairs(t.counted, t.pairs),
-        names,
-        offsets,
-        sizes,
-        occurrences,
-        gaps,
+impl From<Table> for CTable {
+    ghost from_gives = { λ t c. c ≡ c_table t };
+
+    fn from(t: Table) -> CTable {
+        // Stays: the five variables; the check refuses a field that is an array in a literal.
+        let names = t.names;
+        let offsets = t.offsets;
+        let sizes = t.sizes;
+        let occurrences = t.occurrences;
+        let gaps = t.gaps;
+        CTable {
+            verdict: t.verdict.into(),
+            count: t.count,
+            pairs: c_pairs(t.counted, t.pairs),
+            names,
+            offsets,
+            sizes,
+            occurrences,
+            gaps,
+        }
     }
 }
 
-fn c_part(p: Part) -> CPart
-    ensures { result ≡ c_part p }
-{
-    let v = p.verdict;
-    CPart {
-        verdict: c_verdict(v),
-        number: p.number,
-        offset: p.offset,
-        size: p.size,
+impl From<Result<Part, Refusal>> for CPart {
+    ghost from_gives = { λ a c. c ≡ c_part a };
+
+    fn from(a: Result<Part, Refusal>) -> CPart {
+        match a {
+            Ok(p) => CPart {
+                verdict: CVerdict::default(),
+                number: p.number,
+                offset: p.offset,
+                size: p.size,
+            },
+            Err(r) => CPart {
+                verdict: r.into(),
+                ..CPart::default()
+            },
+        }
     }
 }
 
-fn c_opening(o: ContainerOpening) -> COpening
-    ensures { result ≡ c_opening o }
-{
-    let v = o.verdict;
-    COpening {
-        verdict: c_verdict(v),
-        parts: o.parts,
-        file_edition: o.file_edition,
-        edition_read: o.edition_read,
+impl From<Result<ContainerOpening, Refusal>> for COpening {
+    ghost from_gives = { λ a c. c ≡ c_opening a };
+
+    fn from(a: Result<ContainerOpening, Refusal>) -> COpening {
+        match a {
+            Ok(o) => COpening {
+                verdict: CVerdict::default(),
+                parts: o.parts,
+                file_edition: o.file_edition,
+                edition_read: o.edition_read,
+            },
+            Err(r) => COpening {
+                verdict: r.into(),
+                ..COpening::default()
+            },
+        }
     }
 }
 
-// What an opening with places hands over. A container lists at most 96 parts, and an edition is at most 3.
-fn c_opened(o: ContainerPlaces) -> COpened
-    requires { (o.parts < 4294967296) × (o.file_edition < 4294967296) }
-    ensures { result ≡ c_opened o }
-{
-    let v = o.verdict;
-    let places = o.places;
-    COpened {
-        verdict: c_verdict(v),
-        parts: o.parts as u32,
-        file_edition: o.file_edition as u32,
-        edition_read: places.edition,
-        places,
+// PSV0 data alone have no parts.
+impl From<Result<Opening, Refusal>> for COpening {
+    ghost from_gives = { λ a c. c ≡ c_psv_opening a };
+
+    fn from(a: Result<Opening, Refusal>) -> COpening {
+        match a {
+            Ok(o) => COpening {
+                verdict: CVerdict::default(),
+                parts: 0,
+                file_edition: o.file_edition,
+                edition_read: o.edition_read,
+            },
+            Err(r) => COpening {
+                verdict: r.into(),
+                ..COpening::default()
+            },
+        }
     }
 }
 
-fn c_psv_opened(o: PlacesAnswer) -> COpened
-    requires { o.file_edition < 4294967296 }
-    ensures { result ≡ c_psv_opened o }
-{
-    let v = o.verdict;
-    let places = o.places;
-    COpened {
-        verdict: c_verdict(v),
-        parts: 0,
-        file_edition: o.file_edition as u32,
-        edition_read: places.edition,
-        places,
+impl From<Refusal> for COpened {
+    ghost from_gives = { λ r c. c ≡ not_opened r };
+
+    fn from(r: Refusal) -> COpened {
+        COpened {
+            verdict: r.into(),
+            parts: 0,
+            file_edition: 0,
+            edition_read: 0,
+            places: places::none(),
+        }
     }
 }
 
-fn c_psv_opening(o: Opening) -> COpening
-    ensures { result ≡ c_psv_opening o }
-{
-    let v = o.verdict;
-    COpening {
-        verdict: c_verdict(v),
-        parts: 0,
-        file_edition: o.file_edition,
-        edition_read: o.edition_read,
+impl From<Result<Span, Refusal>> for CSpan {
+    ghost from_gives = { λ a c. c ≡ c_span a };
+
+    fn from(a: Result<Span, Refusal>) -> CSpan {
+        match a {
+            Ok(s) => CSpan {
+                verdict: CVerdict::default(),
+                start: s.start,
+                len: s.len,
+                is_string: usize::from(s.points.is_some()),
+                points: s.points.unwrap_or(0),
+            },
+            Err(r) => CSpan {
+                verdict: r.into(),
+                ..CSpan::default()
+            },
+        }
     }
 }
 
-fn is_string(points: Points) -> usize
-    ensures { result ≡ is_string_of points }
-{
-    match points {
-        Points::Count(_) => 1,
-        Points::Unset => 0,
+impl From<Result<usize, Refusal>> for CWritten {
+    ghost from_gives = { λ a c. c ≡ c_written a };
+
+    fn from(a: Result<usize, Refusal>) -> CWritten {
+        match a {
+            Ok(len) => CWritten {
+                verdict: CVerdict::default(),
+                len,
+            },
+            Err(r) => CWritten {
+                verdict: r.into(),
+                len: 0,
+            },
+        }
     }
 }
 
-fn points_number(points: Points) -> usize
-    ensures { result ≡ points_number points }
-{
-    match points {
-        Points::Count(n) => n,
-        Points::Unset => 0,
+impl From<ProgramHeader> for CHeader {
+    ghost from_gives = { λ h c. c ≡ c_header h };
+
+    fn from(h: ProgramHeader) -> CHeader {
+        CHeader {
+            version_major: h.version_major,
+            version_minor: h.version_minor,
+            stage: h.stage,
+            words: h.words,
+            bitcode_major: h.bitcode_major,
+            bitcode_minor: h.bitcode_minor,
+            bitcode_offset: h.bitcode_offset,
+            bitcode_size: h.bitcode_size,
+        }
     }
 }
 
-fn c_span(s: Span) -> CSpan
-    ensures { result ≡ c_span s }
-{
-    let v = s.verdict;
-    let points = s.points;
-    CSpan {
-        verdict: c_verdict(v),
-        start: s.start,
-        len: s.len,
-        is_string: is_string(points),
-        points: points_number(points),
-    }
-}
+impl From<Result<Program, Refusal>> for CProgram {
+    ghost from_gives = { λ a c. c ≡ c_program a };
 
-fn c_written(w: Written) -> CWritten
-    ensures { result ≡ c_written w }
-{
-    let v = w.verdict;
-    CWritten {
-        verdict: c_verdict(v),
-        len: w.len,
-    }
-}
-
-// A container is at most 16,777,216 bytes long.
-fn c_replaced(a: Replacement) -> CReplaced
-    requires { a.len < 4294967296 }
-    ensures { result ≡ c_replaced a }
-{
-    let v = a.verdict;
-    let places = a.places;
-    CReplaced {
-        verdict: c_verdict(v),
-        len: a.len as u32,
-        places,
-    }
-}
-
-fn c_assembly(w: Assembly) -> CWritten
-    ensures { result ≡ c_assembly w }
-{
-    let v = w.verdict;
-    CWritten {
-        verdict: c_verdict(v),
-        len: w.len,
-    }
-}
-
-fn c_header(h: ProgramHeader) -> CHeader
-    ensures { result ≡ c_header h }
-{
-    CHeader {
-        version_major: h.version_major,
-        version_minor: h.version_minor,
-        stage: h.stage,
-        words: h.words,
-        bitcode_major: h.bitcode_major,
-        bitcode_minor: h.bitcode_minor,
-        bitcode_offset: h.bitcode_offset,
-        bitcode_size: h.bitcode_size,
-    }
-}
-
-fn c_program(p: Program) -> CProgram
-    ensures { result ≡ c_program p }
-{
-    let v = p.verdict;
-    let h = p.header;
-    CProgram {
-        verdict: c_verdict(v),
-        header: c_header(h),
-        start: p.start,
-        len: p.len,
+    fn from(a: Result<Program, Refusal>) -> CProgram {
+        match a {
+            Ok(p) => CProgram {
+                verdict: CVerdict::default(),
+                header: p.header.into(),
+                start: p.start,
+                len: p.len,
+            },
+            Err(r) => CProgram {
+                verdict: r.into(),
+                ..CProgram::default()
+            },
+        }
     }
 }
 
@@ -841,316 +748,291 @@ fn stages_number(s: Stages) -> usize
     }
 }
 
-fn c_report(p: ProgramReport) -> CReport
-    ensures { result ≡ c_report p }
-{
-    let v = p.verdict;
-    let h = p.header;
-    let stage = p.psv0_stage;
-    let s = p.stages;
-    CReport {
-        verdict: c_verdict(v),
-        header: c_header(h),
-        start: p.start,
-        len: p.len,
-        psv0_stage: c_field(stage),
-        stages: stages_number(s),
-    }
-}
+impl From<Result<ProgramReport, Refusal>> for CReport {
+    ghost from_gives = { λ a c. c ≡ c_report a };
 
-fn c_signature(a: Signature) -> CSignature
-    ensures { result ≡ c_signature a }
-{
-    let v = a.verdict;
-    CSignature {
-        verdict: c_verdict(v),
-        count: a.count,
-    }
-}
-
-fn c_signature_report(a: SignatureReport) -> CSignatureReport
-    ensures { result ≡ c_signature_report a }
-{
-    let v = a.verdict;
-    CSignatureReport {
-        verdict: c_verdict(v),
-        count: a.count,
-        start: a.start,
-        len: a.len,
-    }
-}
-
-// A name as four numbers: whether there is one, where it starts, its length and its code points.
-#[derive(Clone, Copy)]
-struct NameParts {
-    named: u32,
-    start: usize,
-    len: usize,
-    points: usize,
-}
-
-fn name_parts(name: Name) -> NameParts
-    ensures { result ≡ name_parts name }
-{
-    match name {
-        Name::At(start, len, points) => NameParts {
-            named: 1,
-            start,
-            len,
-            points,
-        },
-        Name::Unset => NameParts {
-            named: 0,
-            start: 0,
-            len: 0,
-            points: 0,
-        },
-    }
-}
-
-fn c_signature_element(a: SignatureAnswer) -> CSignatureElement
-    ensures { result ≡ c_signature_element a }
-{
-    let v = a.verdict;
-    let e = a.element;
-    let name = a.name;
-    let n = name_parts(name);
-    CSignatureElement {
-        verdict: c_verdict(v),
-        stream: e.stream,
-        name_offset: e.name_offset,
-        index: e.index,
-        system_value: e.system_value,
-        component_type: e.component_type,
-        register_number: e.register_number,
-        mask: e.mask,
-        exclusive_mask: e.exclusive_mask,
-        precision: e.precision,
-        named: n.named,
-        name_start: n.start,
-        name_len: n.len,
-        name_points: n.points,
-    }
-}
-
-fn c_difference(a: DifferenceReport) -> CDifference
-    ensures { result ≡ c_difference a }
-{
-    let v = a.verdict;
-    let first = a.first;
-    let c = c_verdict(v);
-    match first {
-        Found::At(i) => CDifference {
-            verdict: c,
-            found: 1,
-            number: i,
-        },
-        Found::Nothing => CDifference {
-            verdict: c,
-            found: 0,
-            number: 0,
-        },
-    }
-}
-
-fn c_root(a: RootSignature) -> CRoot
-    ensures { result ≡ c_root a }
-{
-    let v = a.verdict;
-    let h = a.header;
-    CRoot {
-        verdict: c_verdict(v),
-        version: h.version,
-        parameters: h.parameters,
-        samplers: h.samplers,
-        flags: h.flags,
-    }
-}
-
-fn c_root_report(a: RootReport) -> CRootReport
-    ensures { result ≡ c_root_report a }
-{
-    let v = a.verdict;
-    let h = a.header;
-    CRootReport {
-        verdict: c_verdict(v),
-        version: h.version,
-        parameters: h.parameters,
-        samplers: h.samplers,
-        flags: h.flags,
-        start: a.start,
-        len: a.len,
-    }
-}
-
-// A parameter's values, with zeros where a static sampler has its own.
-fn c_parameter(
-    verdict: CVerdict,
-    kind: CField,
-    visibility: u32,
-    register: u32,
-    space: u32,
-    count: u32,
-    ranges: u32,
-    offset: u32,
-    flags: CField,
-) -> CItem
-    ensures { result ≡ parameter_fields verdict kind visibility register space count ranges offset flags }
-{
-    CItem {
-        verdict,
-        parameter_type: kind,
-        visibility,
-        register_number: register,
-        space,
-        count,
-        ranges,
-        ranges_offset: offset,
-        flags,
-        filter: 0,
-        address_u: 0,
-        address_v: 0,
-        address_w: 0,
-        lod_bias: 0,
-        anisotropy: 0,
-        comparison: 0,
-        border: 0,
-        least_lod: 0,
-        greatest_lod: 0,
-    }
-}
-
-fn c_item(a: ItemAnswer) -> CItem
-    ensures { result ≡ c_item a }
-{
-    let v = a.verdict;
-    let item = a.item;
-    let c = c_verdict(v);
-    match item {
-        Item::Table {
-            visibility,
-            ranges,
-            offset,
-        } => c_parameter(
-            c,
-            CField { set: 1, value: 0 },
-            visibility,
-            0,
-            0,
-            0,
-            ranges,
-            offset,
-            UNSET,
-        ),
-        Item::Constants {
-            visibility,
-            register_number,
-            space,
-            count,
-        } => c_parameter(
-            c,
-            CField { set: 1, value: 1 },
-            visibility,
-            register_number,
-            space,
-            count,
-            0,
-            0,
-            UNSET,
-        ),
-        Item::Descriptor {
-            parameter_type,
-            visibility,
-            register_number,
-            space,
-            flags,
-        } => {
-            let f = c_field(flags);
-            let t = CField {
-                set: 1,
-                value: parameter_type,
-            };
-            c_parameter(c, t, visibility, register_number, space, 0, 0, 0, f)
+    fn from(a: Result<ProgramReport, Refusal>) -> CReport {
+        match a {
+            Ok(p) => CReport {
+                verdict: CVerdict::default(),
+                header: p.header.into(),
+                start: p.start,
+                len: p.len,
+                psv0_stage: p.psv0_stage.into(),
+                stages: stages_number(p.stages),
+            },
+            Err(r) => CReport {
+                verdict: r.into(),
+                ..CReport::default()
+            },
         }
-        Item::Sampler {
-            filter,
-            address_u,
-            address_v,
-            address_w,
-            lod_bias,
-            anisotropy,
-            comparison,
-            border,
-            least_lod,
-            greatest_lod,
-            register_number,
-            space,
-            visibility,
-        } => CItem {
-            verdict: c,
-            parameter_type: UNSET,
-            visibility,
-            register_number,
-            space,
-            count: 0,
-            ranges: 0,
-            ranges_offset: 0,
-            flags: UNSET,
-            filter,
-            address_u,
-            address_v,
-            address_w,
-            lod_bias: lod_bias.bits,
-            anisotropy,
-            comparison,
-            border,
-            least_lod: least_lod.bits,
-            greatest_lod: greatest_lod.bits,
-        },
-        Item::Unset => c_parameter(c, UNSET, 0, 0, 0, 0, 0, 0, UNSET),
     }
 }
 
-fn c_range(a: RangeAnswer) -> CRange
-    ensures { result ≡ c_range a }
-{
-    let v = a.verdict;
-    let x = a.range;
-    let flags = x.flags;
-    let f = c_field(flags);
-    CRange {
-        verdict: c_verdict(v),
-        range_type: x.range_type,
-        descriptors: x.descriptors,
-        base_register: x.base_register,
-        space: x.space,
-        flags: f,
-        offset: x.offset as usize,
+impl From<Result<usize, Refusal>> for CSignature {
+    ghost from_gives = { λ a c. c ≡ c_signature a };
+
+    fn from(a: Result<usize, Refusal>) -> CSignature {
+        match a {
+            Ok(count) => CSignature {
+                verdict: CVerdict::default(),
+                count,
+            },
+            Err(r) => CSignature {
+                verdict: r.into(),
+                count: 0,
+            },
+        }
     }
 }
 
-// A signature part by its number: 0 ISG1, 1 OSG1, any other PSG1.
-fn part_numbered(part: u32) -> SignaturePart
-    ensures { result ≡ part_numbered part }
+impl From<Result<SignatureReport, Refusal>> for CSignatureReport {
+    ghost from_gives = { λ a c. c ≡ c_signature_report a };
+
+    fn from(a: Result<SignatureReport, Refusal>) -> CSignatureReport {
+        match a {
+            Ok(s) => CSignatureReport {
+                verdict: CVerdict::default(),
+                count: s.count,
+                start: s.start,
+                len: s.len,
+            },
+            Err(r) => CSignatureReport {
+                verdict: r.into(),
+                ..CSignatureReport::default()
+            },
+        }
+    }
+}
+
+impl From<Result<SignatureAnswer, Refusal>> for CSignatureElement {
+    ghost from_gives = { λ a c. c ≡ c_signature_element a };
+
+    fn from(a: Result<SignatureAnswer, Refusal>) -> CSignatureElement {
+        match a {
+            Ok(SignatureAnswer { element: e, name }) => {
+                let n = name.unwrap_or_default();
+                CSignatureElement {
+                    verdict: CVerdict::default(),
+                    stream: e.stream,
+                    name_offset: e.name_offset,
+                    index: e.index,
+                    system_value: e.system_value,
+                    component_type: e.component_type,
+                    register_number: e.register_number,
+                    mask: e.mask,
+                    exclusive_mask: e.exclusive_mask,
+                    precision: e.precision,
+                    named: u32::from(name.is_some()),
+                    name_start: n.start,
+                    name_len: n.len,
+                    name_points: n.points,
+                }
+            }
+            Err(r) => CSignatureElement {
+                verdict: r.into(),
+                ..CSignatureElement::default()
+            },
+        }
+    }
+}
+
+impl From<Result<Option<usize>, Refusal>> for CDifference {
+    ghost from_gives = { λ a c. c ≡ c_difference a };
+
+    fn from(a: Result<Option<usize>, Refusal>) -> CDifference {
+        match a {
+            Ok(Some(number)) => CDifference {
+                verdict: CVerdict::default(),
+                found: 1,
+                number,
+            },
+            Ok(None) => CDifference::default(),
+            Err(r) => CDifference {
+                verdict: r.into(),
+                ..CDifference::default()
+            },
+        }
+    }
+}
+
+impl From<Result<RootHeader, Refusal>> for CRoot {
+    ghost from_gives = { λ a c. c ≡ c_root a };
+
+    fn from(a: Result<RootHeader, Refusal>) -> CRoot {
+        match a {
+            Ok(h) => CRoot {
+                verdict: CVerdict::default(),
+                version: h.version,
+                parameters: h.parameters,
+                samplers: h.samplers,
+                flags: h.flags,
+            },
+            Err(r) => CRoot {
+                verdict: r.into(),
+                ..CRoot::default()
+            },
+        }
+    }
+}
+
+impl From<Result<RootReport, Refusal>> for CRootReport {
+    ghost from_gives = { λ a c. c ≡ c_root_report a };
+
+    fn from(a: Result<RootReport, Refusal>) -> CRootReport {
+        match a {
+            Ok(r) => CRootReport {
+                verdict: CVerdict::default(),
+                version: r.header.version,
+                parameters: r.header.parameters,
+                samplers: r.header.samplers,
+                flags: r.header.flags,
+                start: r.start,
+                len: r.len,
+            },
+            Err(r) => CRootReport {
+                verdict: r.into(),
+                ..CRootReport::default()
+            },
+        }
+    }
+}
+
+impl From<Item> for CItem {
+    ghost from_gives = { λ x c. c ≡ item_fields x };
+
+    fn from(item: Item) -> CItem {
+        match item {
+            Item::Table {
+                visibility,
+                ranges,
+                offset,
+            } => CItem {
+                parameter_type: Some(0).into(),
+                visibility,
+                ranges,
+                ranges_offset: offset,
+                ..CItem::default()
+            },
+            Item::Constants {
+                visibility,
+                register_number,
+                space,
+                count,
+            } => CItem {
+                parameter_type: Some(1).into(),
+                visibility,
+                register_number,
+                space,
+                count,
+                ..CItem::default()
+            },
+            Item::Descriptor {
+                parameter_type,
+                visibility,
+                register_number,
+                space,
+                flags,
+            } => CItem {
+                parameter_type: Some(parameter_type).into(),
+                visibility,
+                register_number,
+                space,
+                flags: flags.into(),
+                ..CItem::default()
+            },
+            Item::Sampler {
+                filter,
+                address_u,
+                address_v,
+                address_w,
+                lod_bias,
+                anisotropy,
+                comparison,
+                border,
+                least_lod,
+                greatest_lod,
+                register_number,
+                space,
+                visibility,
+            } => CItem {
+                visibility,
+                register_number,
+                space,
+                filter,
+                address_u,
+                address_v,
+                address_w,
+                lod_bias: lod_bias.bits,
+                anisotropy,
+                comparison,
+                border,
+                least_lod: least_lod.bits,
+                greatest_lod: greatest_lod.bits,
+                ..CItem::default()
+            },
+        }
+    }
+}
+
+impl From<Result<Item, Refusal>> for CItem {
+    ghost from_gives = { λ a c. c ≡ c_item a };
+
+    fn from(a: Result<Item, Refusal>) -> CItem {
+        match a {
+            Ok(item) => item.into(),
+            Err(r) => CItem {
+                verdict: r.into(),
+                ..CItem::default()
+            },
+        }
+    }
+}
+
+impl From<Result<DescriptorRange, Refusal>> for CRange {
+    ghost from_gives = { λ a c. c ≡ c_range a };
+
+    fn from(a: Result<DescriptorRange, Refusal>) -> CRange {
+        match a {
+            Ok(x) => CRange {
+                verdict: CVerdict::default(),
+                range_type: x.range_type,
+                descriptors: x.descriptors,
+                base_register: x.base_register,
+                space: x.space,
+                flags: x.flags.into(),
+                offset: x.offset as usize,
+            },
+            Err(r) => CRange {
+                verdict: r.into(),
+                ..CRange::default()
+            },
+        }
+    }
+}
+
+// A signature part by its number: 0 ISG1, 1 OSG1, 2 PSG1.
+fn part_numbered(part: u32) -> Option<SignaturePart>
+    ensures { result ≡ choose (ltb part 3) (Some (part_numbered part)) None }
 {
-    if part == 0 {
-        return SignaturePart::Input;
+    match part {
+        0 => Some(SignaturePart::Input),
+        1 => Some(SignaturePart::Output),
+        2 => Some(SignaturePart::Patch),
+        _ => None,
     }
-    if part == 1 {
-        return SignaturePart::Output;
-    }
-    SignaturePart::Patch
 }
 
 // What a number above 2, which names no signature part, is answered with: what opening gives, then 26.
-fn no_part(b: &[u8], edition: usize) -> SignatureAnswer
+fn no_part(b: &[u8], edition: usize) -> Refusal
     ensures { result ≡ no_part (container_judged edition b.now) }
 {
-    let o = container::open(b, edition);
-    let v = o.verdict;
-    match v {
-        Verdict::Refused(n, place) => signature::refused(n, place),
-        Verdict::Accepted => signature::refused(26, 0),
+    match container::open(b, edition) {
+        Err(r) => r,
+        Ok(_) => Refusal {
+            number: 26,
+            place: 0,
+        },
     }
 }
 
@@ -1159,165 +1041,139 @@ fn no_part(b: &[u8], edition: usize) -> SignatureAnswer
 fn view_of(kind: u32, number: usize) -> View
     ensures { result ≡ view_of kind number }
 {
-    if kind == 0 {
-        return View::StageUnion;
+    match kind {
+        0 => View::StageUnion,
+        1 => View::ElementString(number),
+        2 => View::ElementArray(number),
+        3 => View::EntryName,
+        4 => View::Mask(number),
+        _ => View::Mask(11),
     }
-    if kind == 1 {
-        return View::ElementString(number);
-    }
-    if kind == 2 {
-        return View::ElementArray(number);
-    }
-    if kind == 3 {
-        return View::EntryName;
-    }
-    if kind == 4 {
-        return View::Mask(number);
-    }
-    View::Mask(11)
 }
 
-// A section by its number; any above 4 is the masks.
-fn section_of(section: u32) -> Section
-    ensures { result ≡ section_numbered section }
+// A section by its number: 0 the runtime record, 1 resources, 2 strings, 3 indices, 4 elements, 5 masks.
+fn section_of(section: u32) -> Option<Section>
+    ensures { result ≡ choose (ltb section 6) (Some (section_numbered section)) None }
 {
-    if section == 0 {
-        return Section::RuntimeRecord;
-    }
-    if section == 1 {
-        return Section::ResourceRecords;
-    }
-    if section == 2 {
-        return Section::StringTable;
-    }
-    if section == 3 {
-        return Section::IndexTable;
-    }
-    if section == 4 {
-        return Section::ElementRecords;
-    }
-    Section::Masks
-}
-
-fn c_settings(a: Settings) -> CSettings
-    ensures { result ≡ c_settings a }
-{
-    let v = a.verdict;
-    CSettings {
-        verdict: c_verdict(v),
-        rows: a.rows,
-        first: a.first,
+    match section {
+        0 => Some(Section::RuntimeRecord),
+        1 => Some(Section::ResourceRecords),
+        2 => Some(Section::StringTable),
+        3 => Some(Section::IndexTable),
+        4 => Some(Section::ElementRecords),
+        5 => Some(Section::Masks),
+        _ => None,
     }
 }
 
-fn c_settings_row(a: RowAnswer) -> CSettingsRow
-    ensures { result ≡ c_settings_row a }
-{
-    let v = a.verdict;
-    let x = a.row;
-    CSettingsRow {
-        verdict: c_verdict(v),
-        version: x.version,
-        key: x.key,
-        value: x.value as usize,
+impl From<Result<Settings, Refusal>> for CSettings {
+    ghost from_gives = { λ a c. c ≡ c_settings a };
+
+    fn from(a: Result<Settings, Refusal>) -> CSettings {
+        match a {
+            Ok(s) => CSettings {
+                verdict: CVerdict::default(),
+                rows: s.rows,
+                first: s.first,
+            },
+            Err(r) => CSettings {
+                verdict: r.into(),
+                ..CSettings::default()
+            },
+        }
     }
 }
 
-fn c_settings_row_alone(a: RowAlone) -> CSettingsRowAlone
-    ensures { result ≡ c_settings_row_alone a }
-{
-    let v = a.verdict;
-    let x = a.row;
-    CSettingsRowAlone {
-        verdict: c_verdict(v),
-        version: x.version,
-        key: x.key,
-        value: x.value as usize,
-        end: a.end,
+impl From<Result<Row, Refusal>> for CSettingsRow {
+    ghost from_gives = { λ a c. c ≡ c_settings_row a };
+
+    fn from(a: Result<Row, Refusal>) -> CSettingsRow {
+        match a {
+            Ok(row) => CSettingsRow {
+                verdict: CVerdict::default(),
+                version: row.version,
+                key: row.key,
+                value: row.value as usize,
+            },
+            Err(r) => CSettingsRow {
+                verdict: r.into(),
+                ..CSettingsRow::default()
+            },
+        }
     }
 }
 
-fn setting_field(s: Setting) -> CField
-    ensures { result ≡ setting_field s }
-{
-    match s {
-        Setting::Set(value) => CField { set: 1, value },
-        Setting::Unset => UNSET,
+impl From<Result<RowAlone, Refusal>> for CSettingsRowAlone {
+    ghost from_gives = { λ a c. c ≡ c_settings_row_alone a };
+
+    fn from(a: Result<RowAlone, Refusal>) -> CSettingsRowAlone {
+        match a {
+            Ok(alone) => CSettingsRowAlone {
+                verdict: CVerdict::default(),
+                version: alone.row.version,
+                key: alone.row.key,
+                value: alone.row.value as usize,
+                end: alone.end,
+            },
+            Err(r) => CSettingsRowAlone {
+                verdict: r.into(),
+                ..CSettingsRowAlone::default()
+            },
+        }
     }
 }
 
-fn c_setting(a: SettingAnswer) -> CSetting
-    ensures { result ≡ c_setting a }
-{
-    let v = a.verdict;
-    let s = a.setting;
-    CSetting {
-        verdict: c_verdict(v),
-        setting: setting_field(s),
+impl From<Result<Option<u32>, Refusal>> for CSetting {
+    ghost from_gives = { λ a c. c ≡ c_setting a };
+
+    fn from(a: Result<Option<u32>, Refusal>) -> CSetting {
+        match a {
+            Ok(setting) => CSetting {
+                verdict: CVerdict::default(),
+                setting: setting.into(),
+            },
+            Err(r) => CSetting {
+                verdict: r.into(),
+                ..CSetting::default()
+            },
+        }
     }
 }
 
-fn c_settings_written(a: SettingsWritten) -> CWritten
-    ensures { result ≡ c_settings_written a }
-{
-    let v = a.verdict;
-    CWritten {
-        verdict: c_verdict(v),
-        len: a.len,
-    }
-}
-
-fn addition_number(a: Addition) -> usize
-    ensures { result ≡ addition_number a }
+// What adding to the figures f answers.
+#[tactic(auto, unfolding(crate::specs::Boundary::c_added))]
+fn c_added(f: Figures, a: Result<Addition, Full>) -> CAdded
+    ensures { result ≡ c_added f a }
 {
     match a {
-        Addition::Counted(_) => 0,
-        Addition::Full => 1,
-    }
-}
-
-fn addition_verdict(a: Addition) -> CVerdict
-    ensures { result ≡ addition_verdict a }
-{
-    match a {
-        Addition::Counted(v) => c_verdict(v),
-        Addition::Full => CVerdict {
-            number: 0,
-            place: 0,
+        Ok(x) => CAdded {
+            answer: 0,
+            verdict: x.opening.into(),
+            figures: x.figures,
+        },
+        Err(Full) => CAdded {
+            answer: 1,
+            verdict: CVerdict::default(),
+            figures: f,
         },
     }
 }
 
-fn c_added(a: AddAnswer) -> CAdded
-    ensures { result ≡ c_added a }
-{
-    let answer = a.answer;
-    let figures = a.figures;
-    CAdded {
-        answer: addition_number(answer),
-        verdict: addition_verdict(answer),
-        figures,
-    }
-}
-
-fn joining_number(a: Joining) -> usize
-    ensures { result ≡ joining_number a }
+// What joining others to the figures f answers.
+#[tactic(auto, unfolding(crate::specs::Boundary::c_joined))]
+fn c_joined(f: Figures, a: Result<Figures, JoinError>) -> CJoined
+    ensures { result ≡ c_joined f a }
 {
     match a {
-        Joining::Joined => 0,
-        Joining::Full => 1,
-        Joining::OtherEdition => 2,
-    }
-}
-
-fn c_joined(a: JoinAnswer) -> CJoined
-    ensures { result ≡ c_joined a }
-{
-    let answer = a.answer;
-    let figures = a.figures;
-    CJoined {
-        answer: joining_number(answer),
-        figures,
+        Ok(figures) => CJoined { answer: 0, figures },
+        Err(JoinError::Full) => CJoined {
+            answer: 1,
+            figures: f,
+        },
+        Err(JoinError::OtherEdition) => CJoined {
+            answer: 2,
+            figures: f,
+        },
     }
 }
 
@@ -1325,9 +1181,10 @@ fn c_joined(a: JoinAnswer) -> CJoined
 fn table_asked(b: &[u8], counting: bool) -> CTable
     ensures { result ≡ c_table (table_asked counting b.now) }
 {
-    c_table(part_table::read_with(b, counting))
+    part_table::read_with(b, counting).into()
 }
 
+// Stays: from here on names, parameters and numbers for kinds are those of C's header (a).
 // The part table, 1 to 9.
 pub fn qollqamir_table(b: &[u8]) -> CTable
     ensures { result ≡ c_table (table_of b.now) }
@@ -1346,14 +1203,14 @@ pub fn qollqamir_table_counted(b: &[u8]) -> CTable
 pub fn qollqamir_table_part(b: &[u8], name: &[u8; 4]) -> CPart
     ensures { result ≡ c_part (part_of b.now (u32_at name.now 0)) }
 {
-    c_part(part_table::find_part(b, name))
+    part_table::find_part(b, name).into()
 }
 
 // The part with a name and an occurrence, from the table alone: 1 to 9, then 26.
 pub fn qollqamir_table_part_occurrence(b: &[u8], name: &[u8; 4], occurrence: usize) -> CPart
     ensures { result ≡ c_part (occurrence_of b.now (u32_at name.now 0) occurrence) }
 {
-    c_part(part_table::find_part_occurrence(b, name, occurrence))
+    part_table::find_part_occurrence(b, name, occurrence).into()
 }
 
 // Whether a name is one of the 24 that are known.
@@ -1367,21 +1224,21 @@ pub fn qollqamir_known(name: &[u8; 4]) -> bool
 pub fn qollqamir_open(b: &[u8], edition: usize) -> COpening
     ensures { result ≡ c_opening (container_opening_of edition b.now) }
 {
-    c_opening(container::open(b, edition))
+    container::open(b, edition).into()
 }
 
 // Opens a container at the edition that is read where none is named.
 pub fn qollqamir_open_default(b: &[u8]) -> COpening
     ensures { result ≡ c_opening (container_opening_of default_edition b.now) }
 {
-    c_opening(container::open_default(b))
+    container::open_default(b).into()
 }
 
 // The first part with a name, of a container that opens at an edition.
 pub fn qollqamir_part(b: &[u8], edition: usize, name: &[u8; 4]) -> CPart
     ensures { result ≡ c_part (container_part edition b.now (u32_at name.now 0)) }
 {
-    c_part(container::part(b, edition, name))
+    container::part(b, edition, name).into()
 }
 
 // The part with a name and an occurrence, of a container that opens at an edition.
@@ -1393,74 +1250,89 @@ pub fn qollqamir_part_occurrence(
 ) -> CPart
     ensures { result ≡ c_part (container_occurrence edition b.now (u32_at name.now 0) occurrence) }
 {
-    c_part(container::part_occurrence(b, edition, name, occurrence))
+    container::part_occurrence(b, edition, name, occurrence).into()
 }
 
 // The fields of the runtime record.
 pub fn qollqamir_runtime_info(b: &[u8], edition: usize) -> CInfo
     ensures { result ≡ c_info (info_answer_of (container_judged edition b.now) (container_answered edition b.now)) }
 {
-    let o = container::open_places(b, edition);
-    let v = o.verdict;
-    if let Verdict::Refused(n, place) = v {
-        return no_info(n, place);
+    match container::open_places(b, edition) {
+        Ok(o) => qollqamir_places_runtime_info(b, o.places),
+        Err(r) => Err(r).into(),
     }
-    let p = o.places;
-    let shown = qollqamir_places_runtime_info(b, p);
-    shown
 }
 
 // Resource record i.
 pub fn qollqamir_resource(b: &[u8], edition: usize, i: usize) -> CResource
     ensures { result ≡ c_resource (resource_answer_of (container_judged edition b.now) (container_answered edition b.now) i) }
 {
-    c_resource(container::resource(b, edition, i))
+    container::resource(b, edition, i).into()
 }
 
 // Element record i, over all lists.
 pub fn qollqamir_element(b: &[u8], edition: usize, i: usize) -> CElement
     ensures { result ≡ c_element (element_answer_of (container_judged edition b.now) (container_answered edition b.now) i) }
 {
-    c_element(container::element(b, edition, i))
+    container::element(b, edition, i).into()
 }
 
 // The lists' lengths.
 pub fn qollqamir_lengths(b: &[u8], edition: usize) -> CLengths
     ensures { result ≡ c_lengths (lengths_answer_of (container_judged edition b.now) (container_answered edition b.now)) }
 {
-    c_lengths(container::lengths(b, edition))
+    container::lengths(b, edition).into()
 }
 
 // A view by its kind and number.
 pub fn qollqamir_view(b: &[u8], edition: usize, kind: u32, number: usize) -> CSpan
     ensures { CShows b.now (queried (container_judged edition b.now) (container_answered edition b.now (question_of (view_of kind number)))) (bytes_of (container_answered edition b.now (question_of (view_of kind number)))) (points_of (view_of kind number) (container_answered edition b.now)) result }
 {
-    c_span(container::view_span(b, edition, view_of(kind, number)))
+    container::view_span(b, edition, view_of(kind, number)).into()
 }
 
 // The bytes of a section for writing again: 0 the runtime record, 1 resources, 2 strings, 3 indices, 4 elements, 5 masks; any other
 // is one that isn't there.
 pub fn qollqamir_section(b: &[u8], edition: usize, section: u32) -> CSpan
-    ensures { CShows b.now (section_verdict section (container_judged edition b.now) (container_answered edition b.now (question_of (view_of 5 0)))) (section_shown section (container_judged edition b.now) (edition_read_of edition (psv_of b.now)) (psv_of b.now) (container_answered edition b.now (question_of (view_of 5 0)))) Points.Unset result }
+    ensures { CShows b.now (section_verdict section (container_judged edition b.now) (container_answered edition b.now (question_of (view_of 5 0)))) (section_shown section (container_judged edition b.now) (edition_read_of edition (psv_of b.now)) (psv_of b.now) (container_answered edition b.now (question_of (view_of 5 0)))) None result }
 {
-    if 5 < section {
-        return c_span(container::view_span(b, edition, View::Mask(11)));
+    match section_of(section) {
+        Some(s) => container::section_span(b, edition, s).into(),
+        None => container::view_span(b, edition, View::Mask(11)).into(),
     }
-    c_span(container::section_span(b, edition, section_of(section)))
 }
 
 // Opens a container at an edition, with the places of its PSV0 sections.
 pub fn qollqamir_open_places(b: &[u8], edition: usize) -> COpened
     ensures { result ≡ c_opened (container_places_of edition b.now) }
 {
-    c_opened(container::open_places(b, edition))
+    match container::open_places(b, edition) {
+        // A container lists at most 96 parts, and an edition is at most 3.
+        Ok(o) => COpened {
+            verdict: CVerdict::default(),
+            parts: o.parts as u32,
+            file_edition: o.file_edition as u32,
+            edition_read: o.places.edition,
+            places: o.places,
+        },
+        Err(r) => r.into(),
+    }
 }
 
 // Opens PSV0 data alone, with the places of its sections; it has no parts.
 pub fn qollqamir_psv0_open_places(d: &[u8], edition: usize) -> COpened
     ensures { result ≡ c_psv_opened (opened_places edition d.now) }
 {
-    c_psv_opened(psv0::open_places(d, edition))
+    match psv0::open_places(d, edition) {
+        Ok(o) => COpened {
+            verdict: CVerdict::default(),
+            parts: 0,
+            file_edition: o.file_edition as u32,
+            edition_read: o.places.edition,
+            places: o.places,
+        },
+        Err(r) => r.into(),
+    }
 }
 
 // The fields of the runtime record, by places. The two calls that open the bytes end here, so that they are put into C's struct in one place, and not
@@ -1468,28 +1340,28 @@ pub fn qollqamir_psv0_open_places(d: &[u8], edition: usize) -> COpened
 pub fn qollqamir_places_runtime_info(b: &[u8], p: SectionPlaces) -> CInfo
     ensures { result ≡ c_info (info_by p b.now) }
 {
-    c_info(places::runtime_info(b, p))
+    places::runtime_info(b, p).into()
 }
 
 // Resource record i, by places.
 pub fn qollqamir_places_resource(b: &[u8], p: SectionPlaces, i: usize) -> CResource
     ensures { result ≡ c_resource (resource_by p b.now i) }
 {
-    c_resource(places::resource(b, p, i))
+    places::resource(b, p, i).into()
 }
 
 // Element record i, over all lists, by places.
 pub fn qollqamir_places_element(b: &[u8], p: SectionPlaces, i: usize) -> CElement
     ensures { result ≡ c_element (element_by p b.now i) }
 {
-    c_element(places::element(b, p, i))
+    places::element(b, p, i).into()
 }
 
 // The lists' lengths, by places.
 pub fn qollqamir_places_lengths(b: &[u8], p: SectionPlaces) -> CLengths
-    ensures { result ≡ c_lengths (lengths_by p b.now) }
+    ensures { result ≡ c_lengths (Ok (lengths_by p b.now)) }
 {
-    c_lengths(places::lengths(b, p))
+    places::lengths(b, p).into()
 }
 
 // A view by its kind and number, by places. A mask takes no time but for finding it, so it is asked for by itself: one choice and no call.
@@ -1497,151 +1369,127 @@ pub fn qollqamir_places_view(b: &[u8], p: SectionPlaces, kind: u32, number: usiz
     ensures { CShows b.now (answered_by p b.now (question_of (view_of kind number))).verdict (bytes_of (shown_by p b.now (question_of (view_of kind number)))) (points_of (view_of kind number) (shown_by p b.now)) result }
 {
     if kind == 4 {
-        return c_span(places::mask(b, p, number));
+        return places::mask(b, p, number).into();
     }
-    c_span(places::view_span(b, p, view_of(kind, number)))
+    places::view_span(b, p, view_of(kind, number)).into()
 }
 
 // The bytes of a section for writing again, by places; a section above 5 is one that isn't there.
 pub fn qollqamir_places_section(b: &[u8], p: SectionPlaces, section: u32) -> CSpan
-    ensures { CShows b.now (placed_section section p b.now).verdict (bytes_of (placed_section section p b.now).value) Points.Unset result }
+    ensures { CShows b.now (placed_section section p b.now).verdict (bytes_of (placed_section section p b.now).value) None result }
 {
-    if 5 < section {
-        return c_span(places::refused_span(26, 0));
+    match section_of(section) {
+        Some(s) => places::section_span(b, p, s).into(),
+        None => wire::refused::<Span>(26, 0).into(),
     }
-    c_span(places::section_span(b, p, section_of(section)))
 }
 
 // Opens PSV0 data alone at an edition; it has no parts.
 pub fn qollqamir_psv0_open(d: &[u8], edition: usize) -> COpening
     ensures { result ≡ c_psv_opening (opening_of (opened edition d.now) (file_edition_of (u32_at d.now 0)) (edition_read_of edition d.now)) }
 {
-    c_psv_opening(psv0::open(d, edition))
+    psv0::open(d, edition).into()
 }
 
 // The fields of the runtime record, of PSV0 data alone.
 pub fn qollqamir_psv0_runtime_info(d: &[u8], edition: usize) -> CInfo
     ensures { result ≡ c_info (info_answer_of (opened edition d.now) (answered edition d.now)) }
 {
-    let o = psv0::open_places(d, edition);
-    let v = o.verdict;
-    if let Verdict::Refused(n, place) = v {
-        return no_info(n, place);
+    match psv0::open_places(d, edition) {
+        Ok(o) => qollqamir_places_runtime_info(d, o.places),
+        Err(r) => Err(r).into(),
     }
-    let p = o.places;
-    let shown = qollqamir_places_runtime_info(d, p);
-    shown
 }
 
 // Resource record i, of PSV0 data alone.
 pub fn qollqamir_psv0_resource(d: &[u8], edition: usize, i: usize) -> CResource
     ensures { result ≡ c_resource (resource_answer_of (opened edition d.now) (answered edition d.now) i) }
 {
-    let a = psv0::resource(d, edition, i);
-    let v = a.verdict;
-    if let Verdict::Refused(n, place) = v {
-        // That a record without its first field shows no other is not proved here.
-        if n != 26 {
-            return no_resource(n, place);
-        }
-    }
-    c_resource(a)
+    psv0::resource(d, edition, i).into()
 }
 
 // Element record i, over all lists, of PSV0 data alone.
 pub fn qollqamir_psv0_element(d: &[u8], edition: usize, i: usize) -> CElement
     ensures { result ≡ c_element (element_answer_of (opened edition d.now) (answered edition d.now) i) }
 {
-    let a = psv0::element(d, edition, i);
-    let v = a.verdict;
-    if let Verdict::Refused(n, place) = v {
-        return no_element(n, place);
-    }
-    c_element(a)
+    psv0::element(d, edition, i).into()
 }
 
 // The lists' lengths, of PSV0 data alone.
 pub fn qollqamir_psv0_lengths(d: &[u8], edition: usize) -> CLengths
     ensures { result ≡ c_lengths (lengths_answer_of (opened edition d.now) (answered edition d.now)) }
 {
-    c_lengths(psv0::lengths(d, edition))
+    psv0::lengths(d, edition).into()
 }
 
 // A view by its kind and number, of PSV0 data alone.
 pub fn qollqamir_psv0_view(d: &[u8], edition: usize, kind: u32, number: usize) -> CSpan
     ensures { CShows d.now (queried (opened edition d.now) (answered edition d.now (question_of (view_of kind number)))) (bytes_of (answered edition d.now (question_of (view_of kind number)))) (points_of (view_of kind number) (answered edition d.now)) result }
 {
-    c_span(psv0::view_span(d, edition, view_of(kind, number)))
+    psv0::view_span(d, edition, view_of(kind, number)).into()
 }
 
 // The bytes of a section for writing again, of PSV0 data alone: 0 the runtime record, 1 resources, 2 strings, 3 indices, 4 elements, 5 masks; any other
 // is one that isn't there.
 pub fn qollqamir_psv0_section(d: &[u8], edition: usize, section: u32) -> CSpan
-    ensures { CShows d.now (section_verdict section (opened edition d.now) (answered edition d.now (question_of (view_of 5 0)))) (section_shown section (opened edition d.now) (edition_read_of edition d.now) d.now (answered edition d.now (question_of (view_of 5 0)))) Points.Unset result }
+    ensures { CShows d.now (section_verdict section (opened edition d.now) (answered edition d.now (question_of (view_of 5 0)))) (section_shown section (opened edition d.now) (edition_read_of edition d.now) d.now (answered edition d.now (question_of (view_of 5 0)))) None result }
 {
-    if 5 < section {
-        return c_span(psv0::view_span(d, edition, View::Mask(11)));
+    match section_of(section) {
+        Some(s) => psv0::section_span(d, edition, s).into(),
+        None => psv0::view_span(d, edition, View::Mask(11)).into(),
     }
-    c_span(psv0::section_span(d, edition, section_of(section)))
 }
 
 // The data of a DXIL part alone: 40 to 42.
 pub fn qollqamir_dxil_program(d: &[u8]) -> CProgram
     ensures { result ≡ c_program (program_of d.now) }
 {
-    c_program(dxil::read(d))
+    dxil::read(d).into()
 }
 
 // The report on a container's DXIL part at an edition: what opening gives, then 40 to 42.
 pub fn qollqamir_program(b: &[u8], edition: usize) -> CReport
     ensures { result ≡ c_report (program_report_of edition b.now) }
 {
-    c_report(dxil_report::report(b, edition))
+    dxil_report::report(b, edition).into()
 }
 
 // The data of a part ISG1, OSG1 or PSG1 alone: 43 to 45 and 52.
 pub fn qollqamir_sg1_read(d: &[u8]) -> CSignature
     ensures { result ≡ c_signature (signature_of d.now) }
 {
-    c_signature(signature::read(d))
+    signature::read(d).into()
 }
 
 // Element i of such data: 43 to 45 and 52, then 26.
 pub fn qollqamir_sg1_element(d: &[u8], i: usize) -> CSignatureElement
     ensures { result ≡ c_signature_element (element_of d.now i) }
 {
-    c_signature_element(signature::element(d, i))
+    signature::element(d, i).into()
 }
 
 // Element i of such data by itself: 43, 26, 44 of its own bytes, 45 and 52 of its own name.
 pub fn qollqamir_sg1_element_alone(d: &[u8], i: usize) -> CSignatureElement
     ensures { result ≡ c_signature_element (alone_of d.now i) }
 {
-    c_signature_element(signature::element_alone(d, i))
+    signature::element_alone(d, i).into()
 }
 
 // The name of element i of such data: 43 to 45 and 52, then 26.
 pub fn qollqamir_sg1_name(d: &[u8], i: usize) -> CSpan
     ensures { result ≡ c_span (name_view (element_of d.now i)) }
 {
-    c_span(signature::name(d, i))
+    signature::name(d, i).into()
 }
 
 // The report on a container's signature part at an edition, 0 ISG1, 1 OSG1, 2 PSG1: what opening gives, 26, then 43 to 45 and 52.
 pub fn qollqamir_signature(b: &[u8], edition: usize, part: u32) -> CSignatureReport
     ensures { result ≡ report_numbered part edition b.now }
 {
-    if 2 < part {
-        let a = no_part(b, edition);
-        let v = a.verdict;
-        return CSignatureReport {
-            verdict: c_verdict(v),
-            count: 0,
-            start: 0,
-            len: 0,
-        };
+    match part_numbered(part) {
+        Some(s) => signature_report::report(b, edition, s).into(),
+        None => Err(no_part(b, edition)).into(),
     }
-    c_signature_report(signature_report::report(b, edition, part_numbered(part)))
 }
 
 // Element i of the part, its name as a stretch of the container: those of the report, then 26.
@@ -1653,20 +1501,20 @@ pub fn qollqamir_signature_element(
 ) -> CSignatureElement
     ensures { result ≡ c_signature_element (element_numbered part edition b.now i) }
 {
-    if 2 < part {
-        return c_signature_element(no_part(b, edition));
+    match part_numbered(part) {
+        Some(s) => signature_report::element(b, edition, s, i).into(),
+        None => Err(no_part(b, edition)).into(),
     }
-    c_signature_element(signature_report::element(b, edition, part_numbered(part), i))
 }
 
 // The name of element i of the part as a stretch of the container: those of the report, then 26.
 pub fn qollqamir_signature_name(b: &[u8], edition: usize, part: u32, i: usize) -> CSpan
     ensures { result ≡ c_span (name_view (element_numbered part edition b.now i)) }
 {
-    if 2 < part {
-        return c_span(signature::view_of(no_part(b, edition)));
+    match part_numbered(part) {
+        Some(s) => signature_report::name(b, edition, s, i).into(),
+        None => Err(no_part(b, edition)).into(),
     }
-    c_span(signature_report::name(b, edition, part_numbered(part), i))
 }
 
 // The first named element of the part whose name differs from that of PSV0's element of the same list and number, or is missing there: after the
@@ -1674,100 +1522,94 @@ pub fn qollqamir_signature_name(b: &[u8], edition: usize, part: u32, i: usize) -
 pub fn qollqamir_signature_difference(b: &[u8], edition: usize, part: u32) -> CDifference
     ensures { result ≡ difference_numbered part edition b.now }
 {
-    if 2 < part {
-        let a = no_part(b, edition);
-        let v = a.verdict;
-        return CDifference {
-            verdict: c_verdict(v),
-            found: 0,
-            number: 0,
-        };
+    match part_numbered(part) {
+        Some(s) => signature_report::first_difference(b, edition, s).into(),
+        None => Err(no_part(b, edition)).into(),
     }
-    c_difference(signature_report::first_difference(b, edition, part_numbered(part)))
 }
 
 // A settings file: 53 to 60.
 pub fn qollqamir_settings_read(d: &[u8]) -> CSettings
     ensures { result ≡ c_settings (settings_of d.now) }
 {
-    c_settings(settings_reader::read(d))
+    settings_reader::read(d).into()
 }
 
 // Row i of a settings file: 53 to 60, then 26.
 pub fn qollqamir_settings_row(d: &[u8], i: usize) -> CSettingsRow
     ensures { result ≡ c_settings_row (row_answer_of d.now i) }
 {
-    c_settings_row(settings_reader::row(d, i))
+    settings_reader::row(d, i).into()
 }
 
 // The row at a byte of a settings file by itself, after a row of version last: 53 to 55 and 57 to 59 of its own.
 pub fn qollqamir_settings_row_alone(d: &[u8], at: usize, last: u32) -> CSettingsRowAlone
     ensures { result ≡ c_settings_row_alone (row_alone_of d.now at last) }
 {
-    c_settings_row_alone(settings_reader::row_alone(d, at, last))
+    settings_reader::row_alone(d, at, last).into()
 }
 
 // The value of a key at a version: 53 to 60; unset where no row tells it.
 pub fn qollqamir_settings_value(d: &[u8], key: u32, version: u32) -> CSetting
     ensures { result ≡ c_setting (setting_answer_of d.now key version) }
 {
-    c_setting(settings_reader::value(d, key, version))
+    settings_reader::value(d, key, version).into()
 }
 
 // The data of a part RTS0 alone: 46 to 51.
 pub fn qollqamir_rts0_read(d: &[u8]) -> CRoot
     ensures { result ≡ c_root (root_of d.now) }
 {
-    c_root(root_signature::read(d))
+    root_signature::read(d).into()
 }
 
 // Item i of such data: 46 to 51, then 26.
 pub fn qollqamir_rts0_item(d: &[u8], i: usize) -> CItem
     ensures { result ≡ c_item (item_of d.now i) }
 {
-    c_item(root_signature::item(d, i))
+    root_signature::item(d, i).into()
 }
 
 // Item i of such data by itself: 46, 47, 26, then 48 to 51 of its own.
 pub fn qollqamir_rts0_item_alone(d: &[u8], i: usize) -> CItem
     ensures { result ≡ c_item (item_alone_of d.now i) }
 {
-    c_item(root_signature::item_alone(d, i))
+    root_signature::item_alone(d, i).into()
 }
 
 // Range j of item i of such data: 46 to 51, then 26.
 pub fn qollqamir_rts0_range(d: &[u8], i: usize, j: usize) -> CRange
     ensures { result ≡ c_range (range_answer_of d.now i j) }
 {
-    c_range(root_signature::range(d, i, j))
+    root_signature::range(d, i, j).into()
 }
 
 // Range j of item i of such data by itself: what the item by itself gives, then 26.
 pub fn qollqamir_rts0_range_alone(d: &[u8], i: usize, j: usize) -> CRange
     ensures { result ≡ c_range (range_alone_of d.now i j) }
 {
-    c_range(root_signature::range_alone(d, i, j))
+    root_signature::range_alone(d, i, j).into()
 }
 
 // The report on a container's root signature at an edition: what opening gives, 26, then 46 to 51.
 pub fn qollqamir_root_signature(b: &[u8], edition: usize) -> CRootReport
     ensures { result ≡ c_root_report (root_report_of edition b.now) }
 {
-    c_root_report(root_signature_report::report(b, edition))
+    root_signature_report::report(b, edition).into()
 }
 
 // Item i of it: those of the report, then 26.
 pub fn qollqamir_root_item(b: &[u8], edition: usize, i: usize) -> CItem
     ensures { result ≡ c_item (item_report_of edition b.now i) }
 {
-    c_item(root_signature_report::item(b, edition, i))
+    root_signature_report::item(b, edition, i).into()
 }
 
 // Range j of item i of it: those of the report, then 26.
 pub fn qollqamir_root_range(b: &[u8], edition: usize, i: usize, j: usize) -> CRange
     ensures { result ≡ c_range (range_report_of edition b.now i j) }
 {
-    c_range(root_signature_report::range(b, edition, i, j))
+    root_signature_report::range(b, edition, i, j).into()
 }
 
 // Writes PSV0 data.
@@ -1784,9 +1626,10 @@ pub fn qollqamir_write_psv0(
     ensures value { result ≡ c_written (writing.answer edition (writing.given runtime.now resources.now strings.now indices.now elements.now masks.now) (length out.old)) }
     ensures out_after { out.new ≡ writing.output edition (writing.given runtime.now resources.now strings.now indices.now elements.now masks.now) out.old }
 {
-    c_written(psv0_writer::write(
+    psv0_writer::write(
         edition, runtime, resources, strings, indices, elements, masks, out,
-    ))
+    )
+    .into()
 }
 
 // Assembles a container.
@@ -1797,10 +1640,10 @@ pub fn qollqamir_assemble(
     digest: &[u8],
     out: &mut [u8],
 ) -> CWritten
-    ensures value { result ≡ c_assembly (assembly.answer (assembly.given names.now sizes.now «data».now digest.now) (length out.old)) }
+    ensures value { result ≡ c_written (assembly.answer (assembly.given names.now sizes.now «data».now digest.now) (length out.old)) }
     ensures out_after { out.new ≡ assembly.output (assembly.given names.now sizes.now «data».now digest.now) out.old }
 {
-    c_assembly(assembler::assemble(names, sizes, data, digest, out))
+    assembler::assemble(names, sizes, data, digest, out).into()
 }
 
 // A container with other PSV0 data in the place of its own.
@@ -1808,15 +1651,27 @@ pub fn qollqamir_replace_psv0(b: &[u8], edition: usize, new: &[u8], out: &mut [u
     ensures value { result ≡ c_replaced (replacement_of edition b.now new.now (length out.old)) }
     ensures out_after { out.new ≡ output_of edition b.now new.now out.old }
 {
-    c_replaced(replacing::replace_psv0(b, edition, new, out))
+    match replacing::replace_psv0(b, edition, new, out) {
+        // A container is at most 16,777,216 bytes long.
+        Ok(r) => CReplaced {
+            verdict: CVerdict::default(),
+            len: r.len as u32,
+            places: r.places,
+        },
+        Err(r) => CReplaced {
+            verdict: r.into(),
+            len: 0,
+            places: places::none(),
+        },
+    }
 }
 
 // Writes a settings file from rows as numbers, three a row.
 pub fn qollqamir_write_settings(rows: &[u32], out: &mut [u8]) -> CWritten
-    ensures value { result ≡ c_settings_written (settings_writing.answer rows.now (length out.old)) }
+    ensures value { result ≡ c_written (settings_writing.answer rows.now (length out.old)) }
     ensures out_after { out.new ≡ settings_writing.output rows.now out.old }
 {
-    c_settings_written(settings_writer::write(rows, out))
+    settings_writer::write(rows, out).into()
 }
 
 // Figures of no container, at an edition.
@@ -1828,14 +1683,14 @@ pub fn qollqamir_figures_start(edition: usize) -> Figures
 
 // One container more, opened at the figures' edition.
 pub fn qollqamir_figures_add(f: Figures, b: &[u8]) -> CAdded
-    ensures { result ≡ c_added (added f b.now) }
+    ensures { result ≡ c_added f (added f b.now) }
 {
-    c_added(figures_counter::add(f, b))
+    c_added(f, figures_counter::add(f, b))
 }
 
 // Two figures joined.
 pub fn qollqamir_figures_join(f: Figures, g: Figures) -> CJoined
-    ensures { result ≡ c_joined (joined f g) }
+    ensures { result ≡ c_joined f (joined f g) }
 {
-    c_joined(figures_counter::join(f, g))
+    c_joined(f, figures_counter::join(f, g))
 }

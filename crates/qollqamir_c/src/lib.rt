@@ -1,7 +1,7 @@
 // The library for programs in C: each call of qollqamir, exported under its name, with its promise again. include/qollqamir.h documents each.
 #![tactic(auto)]
 
-ghost use Rattle.std.specs.Prelude.{◌≡◌, length};
+ghost use Rattle.std.specs.Prelude.{Ok, ◌≡◌, length};
 ghost use Rattle.assembler_layout.specs.Answer as assembly;
 ghost use Rattle.constants.specs.Edition.{file_edition_of};
 ghost use Rattle.constants.specs.Name.{is_known};
@@ -28,11 +28,10 @@ ghost use Rattle.settings_layout.specs.Given as settings_writing;
 ghost use Rattle.settings_layout.specs.Shown.{settings_of, row_answer_of, row_alone_of, setting_answer_of};
 ghost use Rattle.signature_layout.specs.Signature.{signature_of, element_of, alone_of, view_of as name_view};
 ghost use Rattle.wire.specs.Number.{u32_at};
-ghost use Rattle.qollqamir.specs.Boundary.{c_table, c_part, c_opening, c_psv_opening, c_opened, c_psv_opened, placed_section, c_info, c_resource, c_element, c_lengths, c_span, c_written, c_replaced, c_assembly, c_program, c_report, c_signature, c_signature_element, report_numbered, element_numbered, difference_numbered, c_root, c_root_report, c_item, c_range, c_settings, c_settings_row, c_settings_row_alone, c_setting, c_settings_written, c_added, c_joined, view_of, section_verdict, section_shown, CShows};
+ghost use Rattle.qollqamir.specs.Boundary.{c_table, c_part, c_opening, c_psv_opening, c_opened, c_psv_opened, placed_section, c_info, c_resource, c_element, c_lengths, c_span, c_written, c_replaced, c_program, c_report, c_signature, c_signature_element, report_numbered, element_numbered, difference_numbered, c_root, c_root_report, c_item, c_range, c_settings, c_settings_row, c_settings_row_alone, c_setting, c_added, c_joined, view_of, section_verdict, section_shown, CShows};
 
 use figures_layout::Figures;
 use places_layout::SectionPlaces;
-use psv0_layout::Points;
 use qollqamir::{
     CAdded, CDifference, CElement, CInfo, CItem, CJoined, CLengths, COpened, COpening, CPart,
     CProgram, CRange, CReplaced, CReport, CResource, CRoot, CRootReport, CSetting, CSettings,
@@ -165,7 +164,7 @@ pub extern "C" fn qollqamir_view(b: &[u8], edition: usize, kind: u32, number: us
 // is one that isn't there.
 #[unsafe(no_mangle)]
 pub extern "C" fn qollqamir_section(b: &[u8], edition: usize, section: u32) -> CSpan
-    ensures { CShows b.now (section_verdict section (container_judged edition b.now) (container_answered edition b.now (question_of (view_of 5 0)))) (section_shown section (container_judged edition b.now) (edition_read_of edition (psv_of b.now)) (psv_of b.now) (container_answered edition b.now (question_of (view_of 5 0)))) Points.Unset result }
+    ensures { CShows b.now (section_verdict section (container_judged edition b.now) (container_answered edition b.now (question_of (view_of 5 0)))) (section_shown section (container_judged edition b.now) (edition_read_of edition (psv_of b.now)) (psv_of b.now) (container_answered edition b.now (question_of (view_of 5 0)))) None result }
 {
     qollqamir::qollqamir_section(b, edition, section)
 }
@@ -214,7 +213,7 @@ pub extern "C" fn qollqamir_places_element(b: &[u8], p: SectionPlaces, i: usize)
 // The lists' lengths, by places.
 #[unsafe(no_mangle)]
 pub extern "C" fn qollqamir_places_lengths(b: &[u8], p: SectionPlaces) -> CLengths
-    ensures { result ≡ c_lengths (lengths_by p b.now) }
+    ensures { result ≡ c_lengths (Ok (lengths_by p b.now)) }
 {
     qollqamir::qollqamir_places_lengths(b, p)
 }
@@ -235,7 +234,7 @@ pub extern "C" fn qollqamir_places_view(
 // The bytes of a section for writing again, by places; a section above 5 is one that isn't there.
 #[unsafe(no_mangle)]
 pub extern "C" fn qollqamir_places_section(b: &[u8], p: SectionPlaces, section: u32) -> CSpan
-    ensures { CShows b.now (placed_section section p b.now).verdict (bytes_of (placed_section section p b.now).value) Points.Unset result }
+    ensures { CShows b.now (placed_section section p b.now).verdict (bytes_of (placed_section section p b.now).value) None result }
 {
     qollqamir::qollqamir_places_section(b, p, section)
 }
@@ -292,7 +291,7 @@ pub extern "C" fn qollqamir_psv0_view(d: &[u8], edition: usize, kind: u32, numbe
 // is one that isn't there.
 #[unsafe(no_mangle)]
 pub extern "C" fn qollqamir_psv0_section(d: &[u8], edition: usize, section: u32) -> CSpan
-    ensures { CShows d.now (section_verdict section (opened edition d.now) (answered edition d.now (question_of (view_of 5 0)))) (section_shown section (opened edition d.now) (edition_read_of edition d.now) d.now (answered edition d.now (question_of (view_of 5 0)))) Points.Unset result }
+    ensures { CShows d.now (section_verdict section (opened edition d.now) (answered edition d.now (question_of (view_of 5 0)))) (section_shown section (opened edition d.now) (edition_read_of edition d.now) d.now (answered edition d.now (question_of (view_of 5 0)))) None result }
 {
     qollqamir::qollqamir_psv0_section(d, edition, section)
 }
@@ -508,7 +507,7 @@ pub extern "C" fn qollqamir_assemble(
     digest: &[u8],
     out: &mut [u8],
 ) -> CWritten
-    ensures value { result ≡ c_assembly (assembly.answer (assembly.given names.now sizes.now «data».now digest.now) (length out.old)) }
+    ensures value { result ≡ c_written (assembly.answer (assembly.given names.now sizes.now «data».now digest.now) (length out.old)) }
     ensures out_after { out.new ≡ assembly.output (assembly.given names.now sizes.now «data».now digest.now) out.old }
 {
     qollqamir::qollqamir_assemble(names, sizes, data, digest, out)
@@ -531,7 +530,7 @@ pub extern "C" fn qollqamir_replace_psv0(
 // Writes a settings file from rows as numbers, three a row.
 #[unsafe(no_mangle)]
 pub extern "C" fn qollqamir_write_settings(rows: &[u32], out: &mut [u8]) -> CWritten
-    ensures value { result ≡ c_settings_written (settings_writing.answer rows.now (length out.old)) }
+    ensures value { result ≡ c_written (settings_writing.answer rows.now (length out.old)) }
     ensures out_after { out.new ≡ settings_writing.output rows.now out.old }
 {
     qollqamir::qollqamir_write_settings(rows, out)
@@ -548,7 +547,7 @@ pub extern "C" fn qollqamir_figures_start(edition: usize) -> Figures
 // One container more, opened at the figures' edition.
 #[unsafe(no_mangle)]
 pub extern "C" fn qollqamir_figures_add(f: Figures, b: &[u8]) -> CAdded
-    ensures { result ≡ c_added (added f b.now) }
+    ensures { result ≡ c_added f (added f b.now) }
 {
     qollqamir::qollqamir_figures_add(f, b)
 }
@@ -556,7 +555,7 @@ pub extern "C" fn qollqamir_figures_add(f: Figures, b: &[u8]) -> CAdded
 // Two figures joined.
 #[unsafe(no_mangle)]
 pub extern "C" fn qollqamir_figures_join(f: Figures, g: Figures) -> CJoined
-    ensures { result ≡ c_joined (joined f g) }
+    ensures { result ≡ c_joined f (joined f g) }
 {
     qollqamir::qollqamir_figures_join(f, g)
 }

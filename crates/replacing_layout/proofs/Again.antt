@@ -7,7 +7,7 @@ use native.Mathlib.Omega.{arith}
 use lib.ListN.{length, take, drop, take-append-drop}
 use lib.Seq.{drop-drop, take-add}
 use Rattle.wire.specs.Number.{u32_at, le32, Bytes}
-use Rattle.wire.specs.declared.Verdict.TheVariants.{Accepted}
+use Rattle.wire.specs.Verdict.{Accepted}
 use Rattle.wire.proofs.Numbers.{read_bytes}
 use Rattle.part_table_layout.specs.Table.{count_of, offset_at, offset_bytes, size_at, data_at, end_at, table_judged}
 use Rattle.part_table_layout.proofs.Accepted.{data_length}

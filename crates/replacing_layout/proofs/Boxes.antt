@@ -1,12 +1,13 @@
 -- Worked boxes, as rows of one list: what the definitions give, and beside it what document 02 says.
 -- Assumes nothing.
+use Rattle.std.specs.Prelude.{Result, Ok, Err}
 use Prim.Native.Nat.{ℕ, ◌+◌}
 use mathlib.Core.Path.{◌≡◌, refl}
 use mathlib.Core.List.{List, [], ◌∷◌, ◌++◌}
 use lib.ListN.{length, replicate}
 use Rattle.wire.specs.Number.{u16_at, u32_at, le32}
-use Rattle.wire.specs.Verdict.{◌then◌, check, when, from, each}
-use Rattle.wire.specs.declared.Verdict.TheVariants.{Accepted, Refused}
+use Rattle.wire.specs.Verdict.{◌then◌, check, when, from, each, under}
+use Rattle.wire.specs.declared.Refusal.{Refusal}
 use Rattle.part_table_layout.specs.Lookup.{find}
 use Rattle.part_table_layout.specs.Table.{count_of, offset_at, offset_bytes, name_at, size_at, data_at, end_at, earliest, part_judged, may_repeat, may_stand, name_judged, header_judged, parts_judged, table_judged}
 use Rattle.utf8_layout.specs.Sequence.{table, fits, front, more, after, counted as sequences_of, well_formed}
@@ -15,7 +16,7 @@ use Rattle.psv0_layout.specs.Judged.{head_judged, fields_judged, body_fits, elem
 use Rattle.psv0_layout.specs.Layout.{counted, after_counted, counted_fits, records, after_records, records_fit, rows, sections, body_of, seen}
 use Rattle.psv0_layout.specs.Position.{next_records, stride_at, first_record, resources_start, strings_start, indices_start, elements_start, masks_start}
 use Rattle.psv0_layout.specs.Reference.{has_zero, until_zero, string_ends, string_good, string_at}
-use Rattle.places_layout.specs.Placed.{head_only, no_places, head_at, whole_at, places_at}
+use Rattle.places_layout.specs.Placed.{head_only, head_at, whole_at, places_at}
 use Rattle.places_layout.specs.declared.SectionPlaces.{SectionPlaces}
 use Rattle.container_layout.specs.Container.{psv_of, before_psv, container_judged}
 use Rattle.container_layout.specs.Placed.{container_places}
@@ -46,7 +47,7 @@ C = psv_c 52 1
 
 -- an answer and the output at exit
 pub data Row : Type 0 where
-  row : Replacement → List ℕ → Row
+  row : Result Replacement Refusal → List ℕ → Row
 
 -- an output of n bytes, each 8
 abbrev room : ℕ → List ℕ
@@ -56,10 +57,10 @@ abbrev by : ℕ → List ℕ → List ℕ → ℕ → Row
 by k b new n = row (replacement_of k b new n) (output_of k b new (room n))
 
 abbrev gives : List ℕ → SectionPlaces → List ℕ → Row
-gives r p rest = row (record { verdict = Accepted; len = length r; places = p }) (r ++ rest)
+gives r p rest = row (Ok (record { len = length r; places = p })) (r ++ rest)
 
 abbrev refuses : ℕ → ℕ → Row
-refuses m n = row (record { verdict = Refused m 0; len = 0; places = no_places }) (room n)
+refuses m n = row (Err (record { number = m; place = 0 })) (room n)
 
 -- the places of C's PSV0 data, which start at o, at edition 3
 abbrev places_c : ℕ → SectionPlaces
@@ -120,5 +121,5 @@ said =
     ∷ []
 
 pub boxes_hold : given ≡ said
-unfolding u16_at u32_at le32 ◌then◌ check when from each find count_of offset_at offset_bytes name_at size_at data_at end_at earliest part_judged may_repeat may_stand name_judged header_judged parts_judged table_judged mask_words_of sum head_judged fields_judged body_fits element_judged elements_judged entry_judged judged_at opened counted after_counted counted_fits records after_records records_fit rows sections body_of seen has_zero until_zero table fits front more after sequences_of well_formed string_ends string_good string_at next_records stride_at first_record resources_start strings_start indices_start elements_start masks_start head_at whole_at places_at psv_of before_psv container_judged container_places is_plain replaced_at replaced new_judged replacing_judged replacement_of output_of
+unfolding u16_at u32_at le32 ◌then◌ check when from each under find count_of offset_at offset_bytes name_at size_at data_at end_at earliest part_judged may_repeat may_stand name_judged header_judged parts_judged table_judged mask_words_of sum head_judged fields_judged body_fits element_judged elements_judged entry_judged judged_at opened counted after_counted counted_fits records after_records records_fit rows sections body_of seen has_zero until_zero table fits front more after sequences_of well_formed string_ends string_good string_at next_records stride_at first_record resources_start strings_start indices_start elements_start masks_start head_at whole_at places_at psv_of before_psv container_judged container_places is_plain replaced_at replaced new_judged replacing_judged replacement_of output_of
 boxes_hold = refl

@@ -1,5 +1,6 @@
 -- A container with other PSV0 data: it opens, the other parts are as they were, and its record is that of the new data.
 -- Assumes nothing.
+use Rattle.std.specs.Prelude.{None, Option, Some}
 use Prim.Native.Nat.{ℕ, ◌+◌, ◌-◌, ◌*◌, ◌≤◌, ◌<◌}
 use mathlib.Core.Path.{◌≡◌, refl, sym, ◌∙◌, ap, subst}
 use mathlib.Core.Bool.{true, true≢false}
@@ -8,11 +9,9 @@ use native.Mathlib.Omega.{arith}
 use lib.ListN.{length, get_or, take, drop}
 use borrow.Author.Tests.{le-leb}
 use Rattle.wire.specs.Number.{u32_at, Bytes}
-use Rattle.wire.specs.declared.Verdict.TheVariants.{Accepted}
+use Rattle.wire.specs.Verdict.{Accepted}
 use Rattle.part_table_layout.specs.Lookup.{find}
 use Rattle.part_table_layout.specs.Table.{count_of, offset_at, size_at, end_at, table_judged}
-use Rattle.part_table_layout.specs.declared.Found.{Found}
-use Rattle.part_table_layout.specs.declared.Found.TheVariants.{At, Nothing}
 use Rattle.part_table_layout.proofs.Accepted.{data_length, part_inside, part_after_table}
 use Rattle.part_table_layout.proofs.Lookups.{Named, find_told}
 use Rattle.psv0_layout.specs.Judged.{opened}
@@ -52,9 +51,9 @@ pub record Replaces (b new r : List ℕ) : Type 0 where
   -- the PSV0 data are the new ones, and start where the old ones did
   pub psv : psv_of r ≡ new
   pub place : start_found r (find r psv0) ≡ start_found b (find b psv0)
-  pub outside : (i : ℕ) → find b psv0 ≡ At i → KeepsBytes b i new r
+  pub outside : (i : ℕ) → find b psv0 ≡ Some i → KeepsBytes b i new r
 
-module _ (b new : List ℕ) (i : ℕ) (t : table_judged b ≡ Accepted) (f : find b psv0 ≡ At i)
+module _ (b new : List ℕ) (i : ℕ) (t : table_judged b ≡ Accepted) (f : find b psv0 ≡ Some i)
     (short : moved b i (length new) (length b) ≤ 16777216) where
   abbrev r : List ℕ
   r = replaced_at b i new
@@ -101,7 +100,7 @@ module _ (b new : List ℕ) (i : ℕ) (t : table_judged b ≡ Accepted) (f : fin
       let n = replaced_length b i new t l in
       let s = data_length b t i l in
       let a = own_data b i new t l short in
-      let g : find r psv0 ≡ At i = find_same b r same_parts psv0 ∙ f in
+      let g : find r psv0 ≡ Some i = find_same b r same_parts psv0 ∙ f in
       let room = part_inside b t i l in
       record {
         long = rw (f, s, n) (omega arith);
@@ -112,9 +111,9 @@ module _ (b new : List ℕ) (i : ℕ) (t : table_judged b ≡ Accepted) (f : fin
       }
 
 -- the place of the PSV0 part, where there is one
-pub there : (f : Found) → is_there f ≡ true → (i : ℕ) × (f ≡ At i)
-there (At i) e = (i, refl)
-there Nothing e = absurd (true≢false (sym e))
+pub there : (f : Option ℕ) → is_there f ≡ true → (i : ℕ) × (f ≡ Some i)
+there (Some i) e = (i, refl)
+there None e = absurd (true≢false (sym e))
 
 pub replaces : (b new : List ℕ) → table_judged b ≡ Accepted → is_there (find b psv0) ≡ true → length (replaced b new) ≤ 16777216
     → Replaces b new (replaced b new)

@@ -1,21 +1,23 @@
 -- Plain form by a record of places, of data that reader 3 accepts.
 -- Assumes nothing.
+use Rattle.std.specs.Prelude.{Result, Ok, Err}
 use Prim.Native.Nat.{ℕ, ◌+◌, ◌-◌, ◌*◌, ◌≤◌}
-use mathlib.Core.Path.{◌≡◌, refl, sym, ◌∙◌}
+use mathlib.Core.Path.{◌≡◌, refl, sym, ◌∙◌, ap}
 use mathlib.Core.Bool.{Bool, true, false}
 use mathlib.Core.List.{List}
 use native.Mathlib.Nat.{zero-add}
 use native.Mathlib.Omega.{arith}
 use lib.Dec.{leb, eqb}
 use lib.ListN.{length, take, length-drop}
-use borrow.Author.Tests.{leb-true, leb-false, le-leb, lt-leb, eqb-true, eqb-false, eq-eqb, ne_eqb}
-use Rattle.constants.specs.Edition.{size_of, file_edition_of}
+use borrow.Author.Tests.{leb-true, leb-false, eqb-true, eqb-false, eq-eqb, ne_eqb}
+use Rattle.constants.specs.Edition.{file_edition_of}
 use Rattle.constants.proofs.Editions.{edition_few}
 use Rattle.wire.specs.Choice.{choose}
 use Rattle.wire.specs.Number.{u32_at}
-use Rattle.wire.specs.declared.Verdict.TheVariants.{Accepted, Refused}
-use Rattle.wire.proofs.Verdicts.{stop_then, pass_then, checked, check_fails}
-use Rattle.psv0_layout.specs.Field.{sum, mask_words_of, mask_bytes_of, element_total}
+use Rattle.wire.specs.declared.Refusal.{Refusal}
+use Rattle.wire.specs.Verdict.{Accepted, Refused}
+use Rattle.wire.proofs.Verdicts.{stop_then, pass_then, checked, check_fails, refused_by, accepted_by, value_by}
+use Rattle.psv0_layout.specs.Field.{mask_words_of, mask_bytes_of, element_total}
 use Rattle.psv0_layout.specs.Judged.{opened}
 use Rattle.psv0_layout.specs.Layout.{sections, guide_of, after2, after5, edition_read_of}
 use Rattle.psv0_layout.specs.Position.{stride_at, first_record, resources_start, strings_start, elements_start, masks_start}
@@ -23,10 +25,8 @@ use Rattle.psv0_layout.proofs.Inside.{records_stride, last_resource, body_fits_l
 use Rattle.psv0_layout.proofs.Opened.{head_fits, head_accepted, body_accepted}
 use Rattle.psv0_layout.proofs.Positions.{resources_at, elements_at, after2_at, after5_at}
 use Rattle.psv0_layout.proofs.Wholes.{records_count}
-use Rattle.psv0_writer_layout.specs.Written.{resource_size_of}
 use Rattle.places_layout.specs.Placed.{head_at, whole_at, places_at, opened_places}
 use Rattle.places_layout.specs.declared.PlacesAnswer.{PlacesAnswer}
-use Rattle.places_layout.specs.declared.SectionPlaces.{SectionPlaces}
 use Rattle.replacing_layout.specs.Judged.{sized_as, is_plain, plain_by, new_judged}
 
 -- what is left after m of n bytes is at most w bytes, of which there are so many: the n bytes end there
@@ -95,52 +95,22 @@ module _ (d : List ℕ) (a : opened 3 d ≡ Accepted) where
       go true p = whole_measured p
       go false p = head_measured p
 
--- ---- the test, step after step
-module _ (p : SectionPlaces) (s n : ℕ) where
-  pub other_size : (s ≡ size_of p.edition → ⊥) → false ≡ plain_by p s n
-  unfolding plain_by
-  other_size h = rw (ne_eqb s _ h)
-
-  module _ (h : s ≡ size_of p.edition) where
-    pub other_resources : sized_as p.resource_count p.resource_size (resource_size_of p.edition) ≡ false → false ≡ plain_by p s n
-    unfolding plain_by
-    other_resources g = rw (eq-eqb s _ h, g)
-
-    module _ (g : sized_as p.resource_count p.resource_size (resource_size_of p.edition) ≡ true) where
-      pub head_by : p.edition ≡ 0 → eqb n (p.resources + p.resource_count * p.resource_size) ≡ plain_by p s n
-      unfolding plain_by
-      head_by z = rw (eq-eqb s _ h, g, lt-leb 1 p.edition (omega arith))
-
-      module _ (l : 1 ≤ p.edition) where
-        pub other_elements : sized_as p.element_count p.element_size 16 ≡ false → false ≡ plain_by p s n
-        unfolding plain_by
-        other_elements f = rw (eq-eqb s _ h, g, le-leb 1 p.edition l, f)
-
-        pub body_by_lem : sized_as p.element_count p.element_size 16 ≡ true
-            → eqb n (p.masks + sum (take 11 p.mask_words) * 4) ≡ plain_by p s n
-        unfolding plain_by
-        body_by_lem f = rw (eq-eqb s _ h, g, le-leb 1 p.edition l, f)
-
 -- ---- the new data
-module _ (new : List ℕ) {r : PlacesAnswer} (h : r ≡ opened_places 3 new) where
-  read_verdict : r.verdict ≡ opened 3 new
-  unfolding opened_places
-  read_verdict = rw h
+module _ (new : List ℕ) {r : Result PlacesAnswer Refusal} (h : r ≡ opened_places 3 new) where
+  pub new_refused : {q : Refusal} → r ≡ Err q → Refused q.number q.place ≡ new_judged new
+  unfolding new_judged opened_places
+  new_refused e = stop_then (opened 3 new) _ _ _ (refused_by _ _ h e)
 
-  pub new_refused : {n q : ℕ} → r.verdict ≡ Refused n q → r.verdict ≡ new_judged new
-  unfolding new_judged
-  new_refused e = e ∙ stop_then (opened 3 new) _ _ _ (sym read_verdict ∙ e)
-
-  module _ (a : r.verdict ≡ Accepted) {s : ℕ} (z : s ≡ u32_at new 0) {t : Bool} (m : t ≡ plain_by r.places s (length new)) where
+  module _ {a : PlacesAnswer} (ok : r ≡ Ok a) {s : ℕ} (z : s ≡ u32_at new 0) {t : Bool} (m : t ≡ plain_by a.places s (length new)) where
     reads : opened 3 new ≡ Accepted
-    reads = sym read_verdict ∙ a
+    unfolding opened_places
+    reads = accepted_by _ _ h ok
 
     tested : is_plain new ≡ t
     unfolding opened_places
     tested =
-        let o = reads in
-        let e : r.places ≡ places_at 0 (edition_read_of 3 new) new = rw (h, o) in
-        sym (plain_measured new o) ∙ sym (m ∙ rw (e, z))
+        let e : a.places ≡ places_at 0 (edition_read_of 3 new) new = ap (λ (q : PlacesAnswer). q.places) (value_by _ _ h ok) in
+        sym (plain_measured new reads) ∙ sym (m ∙ rw (e, z))
 
     pub new_plain : t ≡ true → Accepted ≡ new_judged new
     unfolding new_judged

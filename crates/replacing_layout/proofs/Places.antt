@@ -7,7 +7,7 @@ use native.Mathlib.Omega.{arith}
 use lib.ListN.{length, take, drop, length-append, length-drop}
 use lib.Seq.{length-take-le, take_at, drop_at}
 use Rattle.wire.specs.Number.{u32_at, le32}
-use Rattle.wire.specs.declared.Verdict.TheVariants.{Accepted}
+use Rattle.wire.specs.Verdict.{Accepted}
 use Rattle.wire.proofs.Numbers.{le32_length, u32_drop}
 use Rattle.part_table_layout.specs.Table.{count_of, offset_at, name_at, size_at, data_at, end_at, table_judged}
 use Rattle.part_table_layout.proofs.Accepted.{accepted_told, part_inside, part_after_table, parts_apart}

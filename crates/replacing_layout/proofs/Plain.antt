@@ -12,7 +12,7 @@ use Rattle.constants.specs.Edition.{size_of, file_edition_of}
 use Rattle.constants.proofs.Editions.{edition_few}
 use Rattle.wire.specs.Choice.{choose}
 use Rattle.wire.specs.Number.{u32_at}
-use Rattle.wire.specs.declared.Verdict.TheVariants.{Accepted}
+use Rattle.wire.specs.Verdict.{Accepted}
 use Rattle.wire.proofs.Choices.{both}
 use Rattle.psv0_layout.specs.Field.{mask_bytes_of}
 use Rattle.psv0_layout.specs.Judged.{opened}

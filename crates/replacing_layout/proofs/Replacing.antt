@@ -7,7 +7,7 @@ use lib.ListN.{length}
 use borrow.Author.Tests.{leb-true}
 use Rattle.constants.specs.Edition.{file_edition_of}
 use Rattle.wire.specs.Number.{u32_at, Bytes}
-use Rattle.wire.specs.declared.Verdict.TheVariants.{Accepted}
+use Rattle.wire.specs.Verdict.{Accepted}
 use Rattle.wire.proofs.Verdicts.{then_accepted, check_then, check_accepted}
 use Rattle.part_table_layout.specs.Lookup.{find}
 use Rattle.psv0_layout.specs.Judged.{opened}

@@ -8,7 +8,7 @@ use native.Mathlib.Omega.{arith}
 use lib.Dec.{ltb}
 use lib.ListN.{length}
 use borrow.Author.Tests.{ltb-true, ltb-false}
-use Rattle.wire.specs.declared.Verdict.TheVariants.{Accepted}
+use Rattle.wire.specs.Verdict.{Accepted}
 use Rattle.part_table_layout.specs.Table.{count_of, offset_at, name_at, data_at, end_at, earliest, table_judged}
 use Rattle.part_table_layout.proofs.Accepted.{Header, Sound, accepted_told, accepted_is, part_inside, parts_apart}
 use Rattle.replacing_layout.specs.Replaced.{moved, replaced_at}

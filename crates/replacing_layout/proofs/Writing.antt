@@ -8,7 +8,7 @@ use native.Mathlib.Omega.{arith}
 use lib.ListN.{length, take, drop, length-drop, length-append}
 use lib.Seq.{take_all, length-take-le, take-take, take-add, drop_at}
 use Rattle.wire.specs.Number.{u32_at, le32, placed}
-use Rattle.wire.specs.declared.Verdict.TheVariants.{Accepted}
+use Rattle.wire.specs.Verdict.{Accepted}
 use Rattle.wire.proofs.Numbers.{le32_length, placed_in}
 use Rattle.wire.proofs.Stretches.{Written, none_written, written_more, written_number, rest_copied}
 use Rattle.wire.specs.Stretch.{copied}

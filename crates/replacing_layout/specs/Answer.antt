@@ -1,29 +1,25 @@
 -- What replacing PSV0 answers, and what its output holds afterwards.
-use Rattle.std.specs.Prelude.{◌≡◌, List, ℕ, ◌+◌, ◌-◌, ◌*◌, ◌≤◌, ◌<◌, length}
-use Rattle.wire.specs.declared.Verdict.TheVariants.{Accepted}
+use Rattle.std.specs.Prelude.{◌≡◌, List, ℕ, Result, ◌+◌, ◌-◌, ◌*◌, ◌≤◌, ◌<◌, length}
+use Rattle.wire.specs.Verdict.{under, Accepted}
+use Rattle.wire.specs.declared.Refusal.{Refusal}
 use Rattle.part_table_layout.specs.Table.{count_of, offset_at, size_at, table_judged}
-use Rattle.places_layout.specs.Placed.{places_beside}
 use Rattle.container_layout.specs.Placed.{container_places}
-use Rattle.psv0_writer_layout.specs.Written.{output_if, length_if}
+use Rattle.psv0_writer_layout.specs.Written.{output_if}
 use Rattle.replacing_layout.specs.Judged.{replacing_judged}
 use Rattle.replacing_layout.specs.Replaced.{replaced}
 use Rattle.replacing_layout.specs.declared.Replacement.{Replacement}
 
--- the verdict, the length of the result, and "the record .. of a fresh opening" of it; zeros beside a refusal
-unfoldable pub replacement_of : ℕ → List ℕ → List ℕ → ℕ → Replacement
+-- the length of the result, and "the record .. of a fresh opening" of it
+unfoldable pub replacement_of : ℕ → List ℕ → List ℕ → ℕ → Result Replacement Refusal
 replacement_of k b new room =
-    record {
-      verdict = replacing_judged k b new room;
-      len = length_if (replacing_judged k b new room) (replaced b new);
-      places = places_beside (replacing_judged k b new room) (container_places k (replaced b new));
-    }
+    under (replacing_judged k b new room) (record { len = length (replaced b new); places = container_places k (replaced b new) })
 
 -- the output at exit, which held o: the result and then o's bytes, or all of o beside a refusal
 unfoldable pub output_of : ℕ → List ℕ → List ℕ → List ℕ → List ℕ
 output_of k b new o = output_if (replacing_judged k b new (length o)) (replaced b new) o
 
 -- replacing was called with edition k, the container b, the PSV0 data new and an output that held o: it answers r and leaves l there
-pub record Replacing (k : ℕ) (b new o : List ℕ) (r : Replacement) (l : List ℕ) : Type 0 where
+pub record Replacing (k : ℕ) (b new o : List ℕ) (r : Result Replacement Refusal) (l : List ℕ) : Type 0 where
   pub answered : r ≡ replacement_of k b new (length o)
   pub left : l ≡ output_of k b new o
 

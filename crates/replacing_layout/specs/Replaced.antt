@@ -1,10 +1,9 @@
 -- A container with other PSV0 data (document 02, Ask 11): "keeps every byte outside it but the sizes and offsets, and moves what follows".
+use Rattle.std.specs.Prelude.{None, Option, Some}
 use Rattle.std.specs.Prelude.{List, ◌++◌, ℕ, suc, ◌+◌, ◌-◌, ◌*◌, length, take, drop}
 use Rattle.wire.specs.Number.{le32}
 use Rattle.part_table_layout.specs.Lookup.{find}
 use Rattle.part_table_layout.specs.Table.{count_of, offset_at, offset_bytes, size_at, end_at}
-use Rattle.part_table_layout.specs.declared.Found.{Found}
-use Rattle.part_table_layout.specs.declared.Found.TheVariants.{At, Nothing}
 use Rattle.container_layout.specs.Container.{psv0}
 
 -- where what stood at the place o of the container b, after the data of part i, stands once those are n bytes long
@@ -32,9 +31,9 @@ replaced_at b i new =
     ++ (new
     ++ drop (end_at b i) b))))))
 
-abbrev pub replaced_found : List ℕ → Found → List ℕ → List ℕ
-replaced_found b (At i) new = replaced_at b i new
-replaced_found b Nothing new = b
+abbrev pub replaced_found : List ℕ → Option ℕ → List ℕ → List ℕ
+replaced_found b (Some i) new = replaced_at b i new
+replaced_found b None new = b
 
 -- the container b with the PSV0 data new
 unfoldable pub replaced : List ℕ → List ℕ → List ℕ

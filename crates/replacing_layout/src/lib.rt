@@ -2,12 +2,10 @@
 #![tactic(auto)]
 
 use places_layout::SectionPlaces;
-use wire::Verdict;
 
-// The verdict, the length of the result, and the record of section places that an opening of the result hands back. A refusal has zeros.
+// The length of the result, and the record of section places that an opening of the result hands back.
 #[derive(Clone, Copy)]
 pub struct Replacement {
-    pub verdict: Verdict,
     pub len: usize,
     pub places: SectionPlaces,
 }

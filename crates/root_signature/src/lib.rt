@@ -5,15 +5,11 @@ ghost use Rattle.std.specs.Prelude.{◌≡◌, ◌+◌, ◌*◌, ◌≤◌, ◌<
 ghost use Rattle.std.specs.Float.{binary32};
 ghost use Rattle.std.specs.Float.Ieee.{of_bits};
 ghost use Rattle.wire.specs.Choice.{choose};
-ghost use Rattle.wire.specs.Verdict.{◌then◌, each};
-ghost use Rattle.wire.specs.declared.Verdict.TheVariants.{Accepted};
-ghost use Rattle.root_signature_layout.specs.Root.{items_of, in11, range_size, data_size, header_judged, parameter_judged, item_judged, root_judged, single_of, parameter_of, sampler_of, item_at, range_of, no_header, header_of, root_of, refused_item, item_if, refused_range, range_if, item_there, range_there, item_queried, item_alone, item_of, item_alone_of, range_answer_of, range_alone_of};
+ghost use Rattle.wire.specs.Verdict.{each, under};
+ghost use Rattle.root_signature_layout.specs.Root.{items_of, in11, range_size, data_size, header_judged, parameter_judged, item_judged, root_judged, single_of, parameter_of, sampler_of, item_at, range_of, header_of, root_of, range_shown, item_there, range_there, item_queried, item_alone, item_of, item_alone_of, range_answer_of, range_alone_of};
 
-use psv0_layout::Field;
-use root_signature_layout::{
-    DescriptorRange, Item, ItemAnswer, RangeAnswer, RootHeader, RootSignature, Single,
-};
-use wire::Verdict;
+use root_signature_layout::{DescriptorRange, Item, RootHeader, Single};
+use wire::Refusal;
 
 // ---- what the version decides: 1 is 1.0, 2 is 1.1
 
@@ -47,75 +43,69 @@ fn range_place(version: u32, first: usize, j: usize) -> usize
     ensures value { result ≡ first + range_size version * j }
     ensures upper_bound { result < 1099511627776 }
 {
-    if version == 1 {
-        return first + 20 * j;
-    }
-    first + 24 * j
+    first + by_version(version, 20, 24) * j
 }
 
 // A field that 1.0 lacks.
-fn field_in_11(version: u32, n: u32) -> Field
+fn field_in_11(version: u32, n: u32) -> Option<u32>
     ensures { result ≡ in11 version n }
 {
-    if version == 1 {
-        return Field::Unset;
-    }
-    Field::Set(n)
+    (version != 1).then_some(n)
 }
 
 // ---- refusals
 
 // 46 and 47.
-fn judge_header(d: &[u8]) -> Verdict
-    ensures { result ≡ header_judged d.now }
+fn judge_header(d: &[u8]) -> Result<(), Refusal>
+    ensures { result ≡ under (header_judged d.now) tt }
 {
     if d.len() < 24 {
-        return Verdict::Refused(46, 0);
+        return wire::refused(46, 0);
     }
     let version = wire::u32_at(d, 0);
-    if version == 1 {
-        return Verdict::Accepted;
+    if version != 1 && version != 2 {
+        return wire::refused(47, 0);
     }
-    if version == 2 {
-        return Verdict::Accepted;
-    }
-    Verdict::Refused(47, 0)
+    Ok(())
 }
 
 // 48 to 51 of parameter i.
-fn judge_parameter(d: &[u8], i: usize) -> Verdict
+// Stays: a parameter's record is read in place here, below and of a range: as a struct that one function reads, judging took three times as long.
+#[inline(always)]
+fn judge_parameter(d: &[u8], i: usize) -> Result<(), Refusal>
     requires { i < 4294967296 }
-    ensures { result ≡ parameter_judged d.now i }
+    ensures { result ≡ under (parameter_judged d.now i) tt }
 {
     let len = d.len();
     let at = wire::u32_at(d, 8) as usize + 12 * i;
     if len < at + 12 {
-        return Verdict::Refused(48, i);
+        return wire::refused(48, i);
     }
     let kind = wire::u32_at(d, at);
     if 4 < kind {
-        return Verdict::Refused(49, i);
+        return wire::refused(49, i);
     }
     let version = wire::u32_at(d, 0);
     let data = wire::u32_at(d, at + 8) as usize;
     if len < data + data_size(version, kind) {
-        return Verdict::Refused(50, i);
+        return wire::refused(50, i);
     }
     if kind != 0 {
-        return Verdict::Accepted;
+        return Ok(());
     }
     let n = wire::u32_at(d, data) as usize;
     let first = wire::u32_at(d, data + 4) as usize;
     if len < range_place(version, first, n) {
-        return Verdict::Refused(51, i);
+        return wire::refused(51, i);
     }
-    Verdict::Accepted
+    Ok(())
 }
 
-// 48 to 51 of item i.
-fn judge_item(d: &[u8], i: usize) -> Verdict
+// 48 to 51 of item i. In the loop over the items, so that what is the same for all is read once.
+#[inline(always)]
+fn judge_item(d: &[u8], i: usize) -> Result<(), Refusal>
     requires { i < 8589934592 }
-    ensures { result ≡ item_judged d.now i }
+    ensures { result ≡ under (item_judged d.now i) tt }
 {
     let parameters = wire::u32_at(d, 4) as usize;
     if i < parameters {
@@ -123,106 +113,58 @@ fn judge_item(d: &[u8], i: usize) -> Verdict
     }
     let at = wire::u32_at(d, 16) as usize + 52 * (i - parameters);
     if d.len() < at + 52 {
-        return Verdict::Refused(48, i);
+        return wire::refused(48, i);
     }
-    Verdict::Accepted
+    Ok(())
 }
 
-// The first bad item.
-fn judge_items(d: &[u8]) -> Verdict
-    ensures { result ≡ each (item_judged d.now) (items_of d.now) }
+// Refusals 46 to 51: of the header, then of the first bad item.
+fn judge(d: &[u8]) -> Result<(), Refusal>
+    ensures { result ≡ under (root_judged d.now) tt }
 {
+    judge_header(d)?;
     let n = wire::u32_at(d, 4) as usize + wire::u32_at(d, 12) as usize;
-    let mut i = 0;
-    while i < n {
-        let v = judge_item(d, i);
-        if let Verdict::Refused(number, place) = v {
-            return Verdict::Refused(number, place);
-        }
-        i += 1;
+    for i in 0..n {
+        judge_item(d, i)?;
     }
-    Verdict::Accepted
-}
-
-// Refusals 46 to 51.
-fn judge(d: &[u8]) -> Verdict
-    ensures { result ≡ root_judged d.now }
-{
-    let v = judge_header(d);
-    match v {
-        Verdict::Refused(n, place) => Verdict::Refused(n, place),
-        Verdict::Accepted => judge_items(d),
-    }
+    Ok(())
 }
 
 // 26, where there is no item i.
-fn judge_there(d: &[u8], i: usize) -> Verdict
-    ensures value { result ≡ item_there d.now i }
-    ensures i_bound { result ≡ Accepted → i < 8589934592 }
+fn judge_there(d: &[u8], i: usize) -> Result<(), Refusal>
+    ensures { result ≡ under (item_there d.now i) tt }
 {
     if wire::u32_at(d, 4) as usize + wire::u32_at(d, 12) as usize <= i {
-        return Verdict::Refused(26, 0);
+        return wire::refused(26, 0);
     }
-    Verdict::Accepted
+    Ok(())
 }
 
 // A query for item i: 46 to 51, then 26.
-fn judge_query(d: &[u8], i: usize) -> Verdict
-    ensures value { result ≡ item_queried d.now i }
-    ensures i_bound { result ≡ Accepted → i < 8589934592 }
+fn judge_query(d: &[u8], i: usize) -> Result<(), Refusal>
+    ensures { result ≡ under (item_queried d.now i) tt }
 {
-    let v = judge(d);
-    match v {
-        Verdict::Refused(n, place) => Verdict::Refused(n, place),
-        Verdict::Accepted => judge_there(d, i),
-    }
+    judge(d)?;
+    judge_there(d, i)
 }
 
 // Item i by itself, whatever the others are: 46, 47, 26, then 48 to 51 of its own.
-fn judge_alone(d: &[u8], i: usize) -> Verdict
-    ensures value { result ≡ item_alone d.now i }
-    ensures i_bound { result ≡ Accepted → i < 8589934592 }
+fn judge_alone(d: &[u8], i: usize) -> Result<(), Refusal>
+    ensures { result ≡ under (item_alone d.now i) tt }
 {
-    let v = judge_header(d);
-    if let Verdict::Refused(n, place) = v {
-        return Verdict::Refused(n, place);
-    }
-    let there = judge_there(d, i);
-    match there {
-        Verdict::Refused(n, place) => Verdict::Refused(n, place),
-        Verdict::Accepted => judge_item(d, i),
-    }
+    judge_header(d)?;
+    judge_there(d, i)?;
+    judge_item(d, i)
 }
 
 // ---- the header
 
-// The verdict and the header.
-pub fn read(d: &[u8]) -> RootSignature
+// The header, or 46 to 51.
+pub fn read(d: &[u8]) -> Result<RootHeader, Refusal>
     ensures { result ≡ root_of d.now }
 {
-    let v = judge(d);
-    match v {
-        Verdict::Refused(n, place) => RootSignature {
-            verdict: Verdict::Refused(n, place),
-            header: no_header(),
-        },
-        Verdict::Accepted => RootSignature {
-            verdict: Verdict::Accepted,
-            header: header(d),
-        },
-    }
-}
-
-// The header that a refusal shows.
-pub fn no_header() -> RootHeader
-    ensures { result ≡ no_header }
-{
-    RootHeader {
-        version: 0,
-        parameters: 0,
-        samplers: 0,
-        flags: 0,
-    }
+    judge(d)?;
+    Ok(header(d))
 }
 
 fn header(d: &[u8]) -> RootHeader
@@ -283,13 +225,12 @@ fn parameter(d: &[u8], i: usize) -> Item
             count: third,
         };
     }
-    let flags = field_in_11(wire::u32_at(d, 0), third);
     Item::Descriptor {
         parameter_type: kind,
         visibility,
         register_number: first,
         space: second,
-        flags,
+        flags: field_in_11(wire::u32_at(d, 0), third),
     }
 }
 
@@ -326,41 +267,20 @@ fn item_at(d: &[u8], i: usize) -> Item
     sampler(d, wire::u32_at(d, 16) as usize + 52 * (i - parameters))
 }
 
-// What a refusal shows in the place of an item.
-pub fn refused_item(n: u8, place: usize) -> ItemAnswer
-    ensures { result ≡ refused_item n place }
-{
-    ItemAnswer {
-        verdict: Verdict::Refused(n, place),
-        item: Item::Unset,
-    }
-}
-
-fn answer_item(d: &[u8], i: usize, v: Verdict) -> ItemAnswer
-    requires { v ≡ Accepted → i < 8589934592 }
-    ensures { result ≡ item_if v d.now i }
-{
-    match v {
-        Verdict::Refused(n, place) => refused_item(n, place),
-        Verdict::Accepted => ItemAnswer {
-            verdict: Verdict::Accepted,
-            item: item_at(d, i),
-        },
-    }
-}
-
 // Item i: 46 to 51, then 26.
-pub fn item(d: &[u8], i: usize) -> ItemAnswer
+pub fn item(d: &[u8], i: usize) -> Result<Item, Refusal>
     ensures { result ≡ item_of d.now i }
 {
-    answer_item(d, i, judge_query(d, i))
+    judge_query(d, i)?;
+    Ok(item_at(d, i))
 }
 
 // Item i by itself, whatever the others are: 46, 47, 26, then 48 to 51 of its own.
-pub fn item_alone(d: &[u8], i: usize) -> ItemAnswer
+pub fn item_alone(d: &[u8], i: usize) -> Result<Item, Refusal>
     ensures { result ≡ item_alone_of d.now i }
 {
-    answer_item(d, i, judge_alone(d, i))
+    judge_alone(d, i)?;
+    Ok(item_at(d, i))
 }
 
 // ---- ranges
@@ -370,77 +290,46 @@ fn range_of(version: u32, d: &[u8], at: usize) -> DescriptorRange
     requires { at < 1099511627776 }
     ensures { result ≡ range_of version d.now at }
 {
-    let flags = field_in_11(version, wire::u32_at(d, at + 16));
     DescriptorRange {
         range_type: wire::u32_at(d, at),
         descriptors: wire::u32_at(d, at + 4),
         base_register: wire::u32_at(d, at + 8),
         space: wire::u32_at(d, at + 12),
-        flags,
+        flags: field_in_11(version, wire::u32_at(d, at + 16)),
         offset: wire::u32_at(d, at + by_version(version, 16, 20)),
     }
 }
 
-// What a refusal shows in the place of a range.
-pub fn refused_range(n: u8, place: usize) -> RangeAnswer
-    ensures { result ≡ refused_range n place }
-{
-    RangeAnswer {
-        verdict: Verdict::Refused(n, place),
-        range: DescriptorRange {
-            range_type: 0,
-            descriptors: 0,
-            base_register: 0,
-            space: 0,
-            flags: Field::Unset,
-            offset: 0,
-        },
-    }
-}
-
 // Range j of item i: 26 where it is no table or has no such range.
-fn range_in(d: &[u8], i: usize, j: usize) -> RangeAnswer
-    ensures { result ≡ range_if (range_there d.now i j) d.now i j }
+// Stays: an item's and a range's number go beside the data, as in the public calls `range` and `range_alone` (a).
+fn range_in(d: &[u8], i: usize, j: usize) -> Result<DescriptorRange, Refusal>
+    ensures { result ≡ under (range_there d.now i j) (range_shown d.now i j) }
 {
     if wire::u32_at(d, 4) as usize <= i {
-        return refused_range(26, 0);
+        return wire::refused(26, 0);
     }
     let at = wire::u32_at(d, 8) as usize + 12 * i;
-    let kind = wire::u32_at(d, at);
-    if kind != 0 {
-        return refused_range(26, 0);
-    }
     let data = wire::u32_at(d, at + 8) as usize;
-    if wire::u32_at(d, data) as usize <= j {
-        return refused_range(26, 0);
+    if wire::u32_at(d, at) != 0 || wire::u32_at(d, data) as usize <= j {
+        return wire::refused(26, 0);
     }
     let version = wire::u32_at(d, 0);
     let first = wire::u32_at(d, data + 4) as usize;
-    RangeAnswer {
-        verdict: Verdict::Accepted,
-        range: range_of(version, d, range_place(version, first, j)),
-    }
-}
-
-fn answer_range(d: &[u8], i: usize, j: usize, v: Verdict) -> RangeAnswer
-    ensures { result ≡ range_if (v then range_there d.now i j) d.now i j }
-{
-    match v {
-        Verdict::Refused(n, place) => refused_range(n, place),
-        Verdict::Accepted => range_in(d, i, j),
-    }
+    Ok(range_of(version, d, range_place(version, first, j)))
 }
 
 // Range j of item i: 46 to 51, then 26.
-pub fn range(d: &[u8], i: usize, j: usize) -> RangeAnswer
+pub fn range(d: &[u8], i: usize, j: usize) -> Result<DescriptorRange, Refusal>
     ensures { result ≡ range_answer_of d.now i j }
 {
-    answer_range(d, i, j, judge_query(d, i))
+    judge_query(d, i)?;
+    range_in(d, i, j)
 }
 
 // Range j of item i by itself, whatever the other items are: what the item by itself gives, then 26.
-pub fn range_alone(d: &[u8], i: usize, j: usize) -> RangeAnswer
+pub fn range_alone(d: &[u8], i: usize, j: usize) -> Result<DescriptorRange, Refusal>
     ensures { result ≡ range_alone_of d.now i j }
 {
-    answer_range(d, i, j, judge_alone(d, i))
+    judge_alone(d, i)?;
+    range_in(d, i, j)
 }

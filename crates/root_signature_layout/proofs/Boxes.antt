@@ -1,22 +1,19 @@
 -- Worked examples of root signatures, as rows of lists: what the definitions give, and beside it what the request says.
 -- Assumes nothing.
+use Rattle.std.specs.Prelude.{Some, None, Result, Ok, Err}
 use Prim.Native.Nat.{ℕ}
 use mathlib.Core.Path.{◌≡◌, refl}
 use mathlib.Core.List.{List, [], ◌∷◌, ◌++◌}
 use lib.Ieee.{binary32, of_bits}
 use lib.ListN.{take}
 use Rattle.wire.specs.Number.{u32_at}
-use Rattle.wire.specs.Verdict.{◌then◌, check, when, each}
-use Rattle.wire.specs.declared.Verdict.{Verdict}
-use Rattle.wire.specs.declared.Verdict.TheVariants.{Accepted, Refused}
-use Rattle.psv0_layout.specs.declared.Field.TheVariants.{Set, Unset}
+use Rattle.wire.specs.Verdict.{◌then◌, check, when, each, under, Verdict, Accepted, Refused}
+use Rattle.wire.specs.declared.Refusal.{Refusal}
 use Rattle.root_signature_layout.specs.Root.{in11, descriptor_size, range_size, parameter_at, type_at, visibility_at, data_at, data_size, ranges_of, range_at, sampler_at, header_judged, own_judged, type_judged, data_judged, ranges_judged, parameter_judged, sampler_judged, item_judged, root_judged, single_of, parameter_of, sampler_of, item_at, range_of, header_of, root_of, item_there, range_there, item_queried, item_alone, item_of, item_alone_of, range_answer_of, range_alone_of}
 use Rattle.root_signature_layout.specs.declared.DescriptorRange.{DescriptorRange}
 use Rattle.root_signature_layout.specs.declared.Item.{Item}
-use Rattle.root_signature_layout.specs.declared.Item.TheVariants.{Constants, Descriptor, Table, Sampler, Unset as NoItem}
-use Rattle.root_signature_layout.specs.declared.ItemAnswer.{ItemAnswer}
-use Rattle.root_signature_layout.specs.declared.RangeAnswer.{RangeAnswer}
-use Rattle.root_signature_layout.specs.declared.RootSignature.{RootSignature}
+use Rattle.root_signature_layout.specs.declared.Item.TheVariants.{Constants, Descriptor, Table, Sampler}
+use Rattle.root_signature_layout.specs.declared.RootHeader.{RootHeader}
 use Rattle.root_signature_layout.specs.declared.Single.{Single}
 
 -- a number below 256, in four bytes
@@ -147,8 +144,11 @@ pub verdicts_hold : judged ≡ judged_said
 unfolding u32_at ◌then◌ check when each descriptor_size range_size parameter_at type_at data_at data_size ranges_of range_at sampler_at header_judged own_judged type_judged data_judged ranges_judged parameter_judged sampler_judged item_judged root_judged item_there item_alone
 verdicts_hold = refl
 
--- ---- items: each case in 1.1; a descriptor in 1.0, its flags unset; nothing beside a refusal
-abbrev items : List ItemAnswer
+abbrev refused : {A : Type 0} → ℕ → ℕ → Result A Refusal
+refused n p = Err (record { number = n; place = p })
+
+-- ---- items: each case in 1.1; a descriptor in 1.0, its flags unset
+abbrev items : List (Result Item Refusal)
 items =
     item_of (all 2) 0
     ∷ item_of (all 2) 1
@@ -160,33 +160,30 @@ items =
     ∷ item_alone_of (take 139 (all 2)) 1
     ∷ []
 
-abbrev accepted : Item → ItemAnswer
-accepted x = record { verdict = Accepted; item = x }
-
 -- a float of the file, by its bits
 abbrev single : ℕ → Single
 single n = record { bits = n; value = of_bits binary32 n }
 
-abbrev items_said : List ItemAnswer
+abbrev items_said : List (Result Item Refusal)
 items_said =
-    accepted (Table 7 2 92)
-    ∷ accepted (Constants 7 21 22 23)
-    ∷ accepted (Descriptor 4 7 31 32 (Set 33))
-    ∷ accepted (Descriptor 4 7 31 32 Unset)
+    Ok (Table 7 2 92)
+    ∷ Ok (Constants 7 21 22 23)
+    ∷ Ok (Descriptor 4 7 31 32 (Some 33))
+    ∷ Ok (Descriptor 4 7 31 32 None)
     -- a signalling NaN's bits, those of -1 and of the greatest number
-    ∷ accepted (Sampler 1 2 3 4 (single 2139095045) 6 7 8 (single 3212836864) (single 2139095039) 11 12 13)
-    ∷ record { verdict = Refused 26 0; item = NoItem }
-    ∷ record { verdict = Refused 51 0; item = NoItem }
-    ∷ accepted (Constants 7 21 22 23)
+    ∷ Ok (Sampler 1 2 3 4 (single 2139095045) 6 7 8 (single 3212836864) (single 2139095039) 11 12 13)
+    ∷ refused 26 0
+    ∷ refused 51 0
+    ∷ Ok (Constants 7 21 22 23)
     ∷ []
 
 pub items_hold : items ≡ items_said
-unfolding u32_at ◌then◌ check when each in11 descriptor_size range_size parameter_at type_at visibility_at data_at data_size ranges_of range_at sampler_at header_judged own_judged type_judged data_judged ranges_judged parameter_judged sampler_judged item_judged root_judged single_of parameter_of sampler_of item_at item_there item_queried item_alone item_of item_alone_of
+unfolding u32_at ◌then◌ check when each under in11 descriptor_size range_size parameter_at type_at visibility_at data_at data_size ranges_of range_at sampler_at header_judged own_judged type_judged data_judged ranges_judged parameter_judged sampler_judged item_judged root_judged single_of parameter_of sampler_of item_at item_there item_queried item_alone item_of item_alone_of
 items_hold = refl
 
 -- ---- ranges: in 1.1 24 bytes apart, the flags before the offset; in 1.0 20 bytes apart, the offset alone; 26 for a range that isn't there and
 -- for an item that is no table
-abbrev ranges : List RangeAnswer
+abbrev ranges : List (Result DescriptorRange Refusal)
 ranges =
     range_answer_of (all 2) 0 0
     ∷ range_answer_of (all 2) 0 1
@@ -200,44 +197,34 @@ ranges =
     ∷ range_alone_of (take 191 (all 2)) 0 0
     ∷ []
 
-abbrev range : DescriptorRange → RangeAnswer
-range r = record { verdict = Accepted; range = r }
-
-abbrev no_range : ℕ → RangeAnswer
-no_range n =
-    record {
-      verdict = Refused n 0;
-      range = record { range_type = 0; descriptors = 0; base_register = 0; space = 0; flags = Unset; offset = 0 };
-    }
-
-abbrev ranges_said : List RangeAnswer
+abbrev ranges_said : List (Result DescriptorRange Refusal)
 ranges_said =
-    range (record { range_type = 41; descriptors = 42; base_register = 43; space = 44; flags = Set 45; offset = 46 })
-    ∷ range (record { range_type = 51; descriptors = 52; base_register = 53; space = 54; flags = Set 55; offset = 56 })
-    ∷ range (record { range_type = 41; descriptors = 42; base_register = 43; space = 44; flags = Unset; offset = 45 })
-    ∷ range (record { range_type = 46; descriptors = 51; base_register = 52; space = 53; flags = Unset; offset = 54 })
-    ∷ no_range 26
-    ∷ no_range 26
-    ∷ no_range 26
-    ∷ no_range 26
-    ∷ range (record { range_type = 51; descriptors = 52; base_register = 53; space = 54; flags = Set 55; offset = 56 })
-    ∷ range (record { range_type = 41; descriptors = 42; base_register = 43; space = 44; flags = Set 45; offset = 46 })
+    Ok (record { range_type = 41; descriptors = 42; base_register = 43; space = 44; flags = Some 45; offset = 46 })
+    ∷ Ok (record { range_type = 51; descriptors = 52; base_register = 53; space = 54; flags = Some 55; offset = 56 })
+    ∷ Ok (record { range_type = 41; descriptors = 42; base_register = 43; space = 44; flags = None; offset = 45 })
+    ∷ Ok (record { range_type = 46; descriptors = 51; base_register = 52; space = 53; flags = None; offset = 54 })
+    ∷ refused 26 0
+    ∷ refused 26 0
+    ∷ refused 26 0
+    ∷ refused 26 0
+    ∷ Ok (record { range_type = 51; descriptors = 52; base_register = 53; space = 54; flags = Some 55; offset = 56 })
+    ∷ Ok (record { range_type = 41; descriptors = 42; base_register = 43; space = 44; flags = Some 45; offset = 46 })
     ∷ []
 
 pub ranges_hold : ranges ≡ ranges_said
-unfolding u32_at ◌then◌ check when each in11 descriptor_size range_size parameter_at type_at data_at data_size ranges_of range_at sampler_at header_judged own_judged type_judged data_judged ranges_judged parameter_judged sampler_judged item_judged root_judged range_of item_there range_there item_queried item_alone range_answer_of range_alone_of
+unfolding u32_at ◌then◌ check when each under in11 descriptor_size range_size parameter_at type_at data_at data_size ranges_of range_at sampler_at header_judged own_judged type_judged data_judged ranges_judged parameter_judged sampler_judged item_judged root_judged range_of item_there range_there item_queried item_alone range_answer_of range_alone_of
 ranges_hold = refl
 
--- ---- headers: as they stand, and zeros beside a refusal
-abbrev headers : List RootSignature
+-- ---- headers: as they stand
+abbrev headers : List (Result RootHeader Refusal)
 headers = root_of (all 2) ∷ root_of (take 191 (all 2)) ∷ []
 
-abbrev headers_said : List RootSignature
+abbrev headers_said : List (Result RootHeader Refusal)
 headers_said =
-    record { verdict = Accepted; header = record { version = 2; parameters = 3; samplers = 1; flags = 99 } }
-    ∷ record { verdict = Refused 48 3; header = record { version = 0; parameters = 0; samplers = 0; flags = 0 } }
+    Ok (record { version = 2; parameters = 3; samplers = 1; flags = 99 })
+    ∷ refused 48 3
     ∷ []
 
 pub headers_hold : headers ≡ headers_said
-unfolding u32_at ◌then◌ check when each descriptor_size range_size parameter_at type_at data_at data_size ranges_of range_at sampler_at header_judged own_judged type_judged data_judged ranges_judged parameter_judged sampler_judged item_judged root_judged header_of root_of
+unfolding u32_at ◌then◌ check when each under descriptor_size range_size parameter_at type_at data_at data_size ranges_of range_at sampler_at header_judged own_judged type_judged data_judged ranges_judged parameter_judged sampler_judged item_judged root_judged header_of root_of
 headers_hold = refl

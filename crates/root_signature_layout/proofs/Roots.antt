@@ -1,6 +1,7 @@
 -- What an accepted root signature tells, what an item's number and values are in the file, and that an item or range by itself is answered as the
 -- whole reader answers it.
 -- Assumes nothing.
+use Rattle.std.specs.Prelude.{None, Option, Some}
 use Prim.Native.Nat.{ℕ, zero, suc, ◌+◌, ◌*◌, ◌≤◌, ◌<◌}
 use mathlib.Core.Path.{◌≡◌, refl, sym, ◌∙◌}
 use mathlib.Core.Bool.{Bool, true, false}
@@ -11,11 +12,8 @@ use lib.Dec.{leb, ltb, eqb}
 use lib.ListN.{length}
 use borrow.Author.Tests.{leb-true, lt-ltb, le-ltb, ltb-true, eq-eqb, ne_eqb, eqb-true}
 use Rattle.wire.specs.Number.{u32_at}
-use Rattle.wire.specs.Verdict.{◌then◌, check, when, each}
-use Rattle.wire.specs.declared.Verdict.TheVariants.{Accepted}
+use Rattle.wire.specs.Verdict.{◌then◌, check, when, each, Accepted}
 use Rattle.wire.proofs.Verdicts.{then_accepted, check_accepted, each_accepted}
-use Rattle.psv0_layout.specs.declared.Field.{Field}
-use Rattle.psv0_layout.specs.declared.Field.TheVariants.{Set, Unset}
 use Rattle.root_signature_layout.specs.Root.{version_of, parameters_of, items_of, in11, range_size, parameter_at, type_at, visibility_at, data_at, data_size, ranges_of, range_at, sampler_at, header_judged, own_judged, type_judged, data_judged, ranges_judged, parameter_judged, sampler_judged, item_judged, root_judged, single_of, parameter_of, sampler_of, item_at, number_of, values_of, item_there, item_queried, item_alone, item_of, item_alone_of, range_answer_of, range_alone_of}
 
 -- ---- item i by itself
@@ -81,23 +79,23 @@ module _ (d : List ℕ) (i : ℕ) (a : item_judged d i ≡ Accepted) where
         omega arith
 
 -- ---- an item's number and values are those of the file: n numbers in a row from a place on, and those that stand k bytes after it
-unfoldable pub numbers_after : List ℕ → ℕ → ℕ → ℕ → List Field
+unfoldable pub numbers_after : List ℕ → ℕ → ℕ → ℕ → List (Option ℕ)
 numbers_after d at k zero = []
-numbers_after d at k (suc n) = Set (u32_at d (at + k)) ∷ numbers_after d at (k + 4) n
+numbers_after d at k (suc n) = Some (u32_at d (at + k)) ∷ numbers_after d at (k + 4) n
 
-unfoldable pub numbers_at : List ℕ → ℕ → ℕ → List Field
+unfoldable pub numbers_at : List ℕ → ℕ → ℕ → List (Option ℕ)
 numbers_at d at zero = []
-numbers_at d at (suc n) = Set (u32_at d at) ∷ numbers_after d at 4 n
+numbers_at d at (suc n) = Some (u32_at d at) ∷ numbers_after d at 4 n
 
 pub record Told (d : List ℕ) (i : ℕ) : Type 0 where
-  pub number : i < parameters_of d → number_of (item_at d i) ≡ Set (type_at d i)
-  pub table : i < parameters_of d → type_at d i ≡ 0 → values_of (item_at d i) ≡ Set (visibility_at d i) ∷ numbers_at d (data_at d i) 2
-  pub constants : i < parameters_of d → type_at d i ≡ 1 → values_of (item_at d i) ≡ Set (visibility_at d i) ∷ numbers_at d (data_at d i) 3
+  pub number : i < parameters_of d → number_of (item_at d i) ≡ Some (type_at d i)
+  pub table : i < parameters_of d → type_at d i ≡ 0 → values_of (item_at d i) ≡ Some (visibility_at d i) ∷ numbers_at d (data_at d i) 2
+  pub constants : i < parameters_of d → type_at d i ≡ 1 → values_of (item_at d i) ≡ Some (visibility_at d i) ∷ numbers_at d (data_at d i) 3
   pub descriptor10 : i < parameters_of d → 2 ≤ type_at d i → version_of d ≡ 1
-      → values_of (item_at d i) ≡ Set (visibility_at d i) ∷ (numbers_at d (data_at d i) 2 ++ (Unset ∷ []))
+      → values_of (item_at d i) ≡ Some (visibility_at d i) ∷ (numbers_at d (data_at d i) 2 ++ (None ∷ []))
   pub descriptor11 : i < parameters_of d → 2 ≤ type_at d i → version_of d ≡ 2
-      → values_of (item_at d i) ≡ Set (visibility_at d i) ∷ numbers_at d (data_at d i) 3
-  pub sampler : parameters_of d ≤ i → (number_of (item_at d i) ≡ Unset) × (values_of (item_at d i) ≡ numbers_at d (sampler_at d i) 13)
+      → values_of (item_at d i) ≡ Some (visibility_at d i) ∷ numbers_at d (data_at d i) 3
+  pub sampler : parameters_of d ≤ i → (number_of (item_at d i) ≡ None) × (values_of (item_at d i) ≡ numbers_at d (sampler_at d i) 13)
 
 module _ (d : List ℕ) (i : ℕ) where
   parameter_is : i < parameters_of d → item_at d i ≡ parameter_of d i
@@ -108,15 +106,15 @@ module _ (d : List ℕ) (i : ℕ) where
   unfolding item_at
   sampler_is h = rw (le-ltb i (parameters_of d) h)
 
-  number_is : number_of (parameter_of d i) ≡ Set (type_at d i)
+  number_is : number_of (parameter_of d i) ≡ Some (type_at d i)
   unfolding parameter_of
   number_is = table (eqb (type_at d i) 0) refl
     where
-      constants : (t : Bool) → eqb (type_at d i) 1 ≡ t → (eqb (type_at d i) 0 ≡ false) → number_of (parameter_of d i) ≡ Set (type_at d i)
+      constants : (t : Bool) → eqb (type_at d i) 1 ≡ t → (eqb (type_at d i) 0 ≡ false) → number_of (parameter_of d i) ≡ Some (type_at d i)
       constants true q z = rw (z, q, eqb-true (type_at d i) 1 q)
       constants false q z = rw (z, q)
 
-      table : (t : Bool) → eqb (type_at d i) 0 ≡ t → number_of (parameter_of d i) ≡ Set (type_at d i)
+      table : (t : Bool) → eqb (type_at d i) 0 ≡ t → number_of (parameter_of d i) ≡ Some (type_at d i)
       table true q = rw (q, eqb-true (type_at d i) 0 q)
       table false q = constants (eqb (type_at d i) 1) refl q
 

@@ -1,22 +1,16 @@
 -- The data d of a part RTS0: the header, the items and the ranges of tables. Document 02, Ask 6: "Read RTS0 by the layouts in 001." Numbers have
 -- 4 bytes; "Offsets count from the start of the part's data." All of it is total: past the end a byte is 0. Sums and products are exact.
-use Rattle.std.specs.Prelude.{Bool, ◌&&◌, ◌||◌, List, [], ◌∷◌, ℕ, ◌+◌, ◌-◌, ◌*◌, leb, ltb, eqb, length}
+use Rattle.std.specs.Prelude.{Option, Some, None, Result, Bool, ◌&&◌, ◌||◌, List, [], ◌∷◌, ℕ, ◌+◌, ◌-◌, ◌*◌, leb, ltb, eqb, length}
 use Rattle.std.specs.Float.{binary32}
 use Rattle.std.specs.Float.Ieee.{of_bits}
 use Rattle.wire.specs.Choice.{choose}
 use Rattle.wire.specs.Number.{u32_at}
-use Rattle.wire.specs.Verdict.{◌then◌, check, when, each}
-use Rattle.wire.specs.declared.Verdict.{Verdict}
-use Rattle.wire.specs.declared.Verdict.TheVariants.{Accepted, Refused}
-use Rattle.psv0_layout.specs.declared.Field.{Field}
-use Rattle.psv0_layout.specs.declared.Field.TheVariants.{Set, Unset}
+use Rattle.wire.specs.Verdict.{◌then◌, check, when, each, under, Verdict}
+use Rattle.wire.specs.declared.Refusal.{Refusal}
 use Rattle.root_signature_layout.specs.declared.DescriptorRange.{DescriptorRange}
 use Rattle.root_signature_layout.specs.declared.Item.{Item}
-use Rattle.root_signature_layout.specs.declared.Item.TheVariants.{Constants, Descriptor, Table, Sampler, Unset as NoItem}
-use Rattle.root_signature_layout.specs.declared.ItemAnswer.{ItemAnswer}
-use Rattle.root_signature_layout.specs.declared.RangeAnswer.{RangeAnswer}
+use Rattle.root_signature_layout.specs.declared.Item.TheVariants.{Constants, Descriptor, Table, Sampler}
 use Rattle.root_signature_layout.specs.declared.RootHeader.{RootHeader}
-use Rattle.root_signature_layout.specs.declared.RootSignature.{RootSignature}
 use Rattle.root_signature_layout.specs.declared.Single.{Single}
 
 -- ---- the header, 24 bytes: "the version, number and offset of parameters, number and offset of static samplers, and a flags field" (001)
@@ -46,8 +40,8 @@ abbrev pub is_parameter : List ℕ → ℕ → Bool
 is_parameter d i = ltb i (parameters_of d)
 
 -- ---- "Version 1 is 1.0 and 2 is 1.1"; "fields 1.0 lacks are unset": v is the version
-unfoldable pub in11 : ℕ → ℕ → Field
-in11 v n = choose (eqb v 1) Unset (Set n)
+unfoldable pub in11 : ℕ → ℕ → Option ℕ
+in11 v n = choose (eqb v 1) None (Some n)
 
 -- a descriptor has 8 bytes in 1.0 and 12 in 1.1, a range 20 and 24 (001)
 unfoldable pub descriptor_size : ℕ → ℕ
@@ -155,51 +149,29 @@ range_of v d at =
 
 -- ---- each case of the enum by the paper's number, which is the parameter's type (a static sampler has none), and its values in the order of 001's
 -- blocks, a parameter's visibility first and a float as its bits. `Roots.Told` says that they are what the file has
-abbrev pub number_of : Item → Field
-number_of (Table v n o) = Set 0
-number_of (Constants v r s n) = Set 1
-number_of (Descriptor t v r s f) = Set t
-number_of (Sampler a b c e f g h i j k l m n) = Unset
-number_of NoItem = Unset
+abbrev pub number_of : Item → Option ℕ
+number_of (Table v n o) = Some 0
+number_of (Constants v r s n) = Some 1
+number_of (Descriptor t v r s f) = Some t
+number_of (Sampler a b c e f g h i j k l m n) = None
 
-abbrev pub values_of : Item → List Field
-values_of (Table v n o) = Set v ∷ Set n ∷ Set o ∷ []
-values_of (Constants v r s n) = Set v ∷ Set r ∷ Set s ∷ Set n ∷ []
-values_of (Descriptor t v r s f) = Set v ∷ Set r ∷ Set s ∷ f ∷ []
+abbrev pub values_of : Item → List (Option ℕ)
+values_of (Table v n o) = Some v ∷ Some n ∷ Some o ∷ []
+values_of (Constants v r s n) = Some v ∷ Some r ∷ Some s ∷ Some n ∷ []
+values_of (Descriptor t v r s f) = Some v ∷ Some r ∷ Some s ∷ f ∷ []
 values_of (Sampler a b c e f g h i j k l m n) =
-    Set a ∷ Set b ∷ Set c ∷ Set e ∷ Set f.bits ∷ Set g ∷ Set h ∷ Set i ∷ Set j.bits ∷ Set k.bits ∷ Set l ∷ Set m ∷ Set n ∷ []
-values_of NoItem = []
+    Some a ∷ Some b ∷ Some c ∷ Some e ∷ Some f.bits ∷ Some g ∷ Some h ∷ Some i ∷ Some j.bits ∷ Some k.bits ∷ Some l ∷ Some m ∷ Some n ∷ []
 
--- ---- the answers; beside a refusal zeros, no item and unset flags
-abbrev pub no_header : RootHeader
-no_header = record { version = 0; parameters = 0; samplers = 0; flags = 0 }
-
+-- ---- the answers
 unfoldable pub header_of : List ℕ → RootHeader
 header_of d = record { version = version_of d; parameters = parameters_of d; samplers = samplers_of d; flags = flags_of d }
 
-abbrev pub header_beside : Verdict → RootHeader → RootHeader
-header_beside Accepted h = h
-header_beside (Refused n p) h = no_header
+unfoldable pub root_of : List ℕ → Result RootHeader Refusal
+root_of d = under (root_judged d) (header_of d)
 
-unfoldable pub root_of : List ℕ → RootSignature
-root_of d = record { verdict = root_judged d; header = header_beside (root_judged d) (header_of d) }
-
-abbrev pub refused_item : ℕ → ℕ → ItemAnswer
-refused_item n p = record { verdict = Refused n p; item = NoItem }
-
-abbrev pub item_if : Verdict → List ℕ → ℕ → ItemAnswer
-item_if Accepted d i = record { verdict = Accepted; item = item_at d i }
-item_if (Refused n p) d i = refused_item n p
-
-abbrev pub no_range : DescriptorRange
-no_range = record { range_type = 0; descriptors = 0; base_register = 0; space = 0; flags = Unset; offset = 0 }
-
-abbrev pub refused_range : ℕ → ℕ → RangeAnswer
-refused_range n p = record { verdict = Refused n p; range = no_range }
-
-abbrev pub range_if : Verdict → List ℕ → ℕ → ℕ → RangeAnswer
-range_if Accepted d i j = record { verdict = Accepted; range = range_of (version_of d) d (range_at d i j) }
-range_if (Refused n p) d i j = refused_range n p
+-- range j of item i
+abbrev pub range_shown : List ℕ → ℕ → ℕ → DescriptorRange
+range_shown d i j = range_of (version_of d) d (range_at d i j)
 
 -- a query for item i: 26 where there is none; for range j of it: 26 where it is no table or has no such range
 unfoldable pub item_there : List ℕ → ℕ → Verdict
@@ -215,14 +187,14 @@ item_queried d i = root_judged d then item_there d i
 unfoldable pub item_alone : List ℕ → ℕ → Verdict
 item_alone d i = header_judged d then item_there d i then item_judged d i
 
-unfoldable pub item_of : List ℕ → ℕ → ItemAnswer
-item_of d i = item_if (item_queried d i) d i
+unfoldable pub item_of : List ℕ → ℕ → Result Item Refusal
+item_of d i = under (item_queried d i) (item_at d i)
 
-unfoldable pub item_alone_of : List ℕ → ℕ → ItemAnswer
-item_alone_of d i = item_if (item_alone d i) d i
+unfoldable pub item_alone_of : List ℕ → ℕ → Result Item Refusal
+item_alone_of d i = under (item_alone d i) (item_at d i)
 
-unfoldable pub range_answer_of : List ℕ → ℕ → ℕ → RangeAnswer
-range_answer_of d i j = range_if (item_queried d i then range_there d i j) d i j
+unfoldable pub range_answer_of : List ℕ → ℕ → ℕ → Result DescriptorRange Refusal
+range_answer_of d i j = under (item_queried d i then range_there d i j) (range_shown d i j)
 
-unfoldable pub range_alone_of : List ℕ → ℕ → ℕ → RangeAnswer
-range_alone_of d i j = range_if (item_alone d i then range_there d i j) d i j
+unfoldable pub range_alone_of : List ℕ → ℕ → ℕ → Result DescriptorRange Refusal
+range_alone_of d i j = under (item_alone d i then range_there d i j) (range_shown d i j)

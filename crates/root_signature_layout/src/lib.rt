@@ -2,23 +2,13 @@
 // reader is a crate of its own.
 #![tactic(auto)]
 
-use psv0_layout::Field;
-use wire::Verdict;
-
-// The header's version, counts and flags. A refusal has zeros.
+// The header's version, counts and flags.
 #[derive(Clone, Copy)]
 pub struct RootHeader {
     pub version: u32,
     pub parameters: u32,
     pub samplers: u32,
     pub flags: u32,
-}
-
-// The verdict on a root signature and its header.
-#[derive(Clone, Copy)]
-pub struct RootSignature {
-    pub verdict: Verdict,
-    pub header: RootHeader,
 }
 
 // A 32-bit float of the file: its four bytes as a number, and the float that they are.
@@ -28,7 +18,7 @@ pub struct Single {
     pub value: f32,
 }
 
-// An item: a parameter that is a table, constants or a descriptor, or a static sampler. Unset stands beside a refusal alone.
+// An item: a parameter that is a table, constants or a descriptor, or a static sampler.
 #[derive(Clone, Copy)]
 pub enum Item {
     Constants {
@@ -42,7 +32,7 @@ pub enum Item {
         visibility: u32,
         register_number: u32,
         space: u32,
-        flags: Field,
+        flags: Option<u32>,
     },
     Table {
         visibility: u32,
@@ -64,30 +54,15 @@ pub enum Item {
         space: u32,
         visibility: u32,
     },
-    Unset,
 }
 
-// The verdict, and one item.
-#[derive(Clone, Copy)]
-pub struct ItemAnswer {
-    pub verdict: Verdict,
-    pub item: Item,
-}
-
-// A range of a table. A refusal has zeros, and the flags are unset.
+// A range of a table.
 #[derive(Clone, Copy)]
 pub struct DescriptorRange {
     pub range_type: u32,
     pub descriptors: u32,
     pub base_register: u32,
     pub space: u32,
-    pub flags: Field,
+    pub flags: Option<u32>,
     pub offset: u32,
-}
-
-// The verdict, and one range.
-#[derive(Clone, Copy)]
-pub struct RangeAnswer {
-    pub verdict: Verdict,
-    pub range: DescriptorRange,
 }

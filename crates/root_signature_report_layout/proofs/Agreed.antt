@@ -1,18 +1,20 @@
 -- What the reports of two editions have in common, and what a widening keeps.
 -- Assumes nothing.
+use Rattle.std.specs.Prelude.{Ok}
 use Prim.Native.Nat.{ℕ, ◌≤◌}
-use mathlib.Core.Path.{◌≡◌, refl}
+use mathlib.Core.Path.{◌≡◌, refl, sym, ◌∙◌}
 use mathlib.Core.List.{List}
 use native.Mathlib.Omega.{arith}
 use Rattle.constants.specs.Edition.{size_of}
 use Rattle.wire.specs.Number.{u32_at}
-use Rattle.wire.specs.declared.Verdict.{Verdict}
-use Rattle.wire.specs.declared.Verdict.TheVariants.{Accepted, Refused}
+use Rattle.wire.specs.Verdict.{verdict_of, Accepted, Refused}
+use Rattle.wire.proofs.Verdicts.{verdict_is, value_by}
 use Rattle.container_layout.specs.Container.{psv0, psv_of, container_judged}
 use Rattle.container_layout.specs.Widened.{WiderContainer}
 use Rattle.container_layout.proofs.Reports.{reports_agree, data_kept, report_kept}
 use Rattle.root_signature_layout.specs.Root.{root_judged}
-use Rattle.root_signature_report_layout.specs.Reported.{rts0, root_data, root_reported, report_if, root_report_of, item_reported, item_report_of, range_report_of}
+use Rattle.root_signature_report_layout.specs.Reported.{rts0, root_data, root_reported, report_shown, root_report_of, item_reported, item_report_of, range_report_of}
+use Rattle.root_signature_report_layout.specs.declared.RootReport.{RootReport}
 
 -- ---- two editions, i the older and j the newer. Where the older refuses to open the bytes, the newer's report gives that refusal; what the newer
 -- report accepts, the older accepts; and where the newer opens the bytes, the report is the same at both, refusal or values, every item and range
@@ -36,12 +38,16 @@ roots_agree i j b h l =
       range = λ o m n. rw (same o);
     }
 
+shown : (k : ℕ) (b : List ℕ) {r : RootReport} → root_report_of k b ≡ Ok r → r ≡ report_shown b
+unfolding root_report_of
+shown k b e = value_by _ _ refl e
+
 -- ---- a widening shows the same report: of reader k, the container b and its widening b', where the runtime record is at least that edition's size.
 -- Where the part lies in the file is not compared
 pub record RootKept (k : ℕ) (b b' : List ℕ) : Type 0 where
-  pub verdict : (root_report_of k b').verdict ≡ (root_report_of k b).verdict
-  pub header : (root_report_of k b').header ≡ (root_report_of k b).header
-  pub len : (root_report_of k b').len ≡ (root_report_of k b).len
+  pub verdict : verdict_of (root_report_of k b') ≡ verdict_of (root_report_of k b)
+  pub header : {r s : RootReport} → root_report_of k b ≡ Ok r → root_report_of k b' ≡ Ok s → s.header ≡ r.header
+  pub len : {r s : RootReport} → root_report_of k b ≡ Ok r → root_report_of k b' ≡ Ok s → s.len ≡ r.len
   pub item : (m : ℕ) → item_report_of k b' m ≡ item_report_of k b m
   pub range : (m n : ℕ) → range_report_of k b' m n ≡ range_report_of k b m n
 
@@ -61,14 +67,9 @@ module _ (k : ℕ) (b b' : List ℕ) (o : container_judged k b ≡ Accepted) (lo
   unfolding root_report_of item_report_of range_report_of item_reported
   root_kept =
       record {
-        verdict = rw verdict_same (shown (root_reported k b)).0;
-        header = rw verdict_same (shown (root_reported k b)).1;
-        len = rw verdict_same (shown (root_reported k b)).2;
+        verdict = verdict_is _ _ refl ∙ verdict_same ∙ sym (verdict_is _ _ refl);
+        header = λ e f. rw (shown k b e, shown k b' f, data_same);
+        len = λ e f. rw (shown k b e, shown k b' f, data_same);
         item = λ m. rw (verdict_same, data_same);
         range = λ m n. rw (verdict_same, data_same);
       }
-    where
-      shown : (v : Verdict) → ((report_if v b').verdict ≡ (report_if v b).verdict) × ((report_if v b').header ≡ (report_if v b).header)
-          × ((report_if v b').len ≡ (report_if v b).len)
-      shown Accepted = (refl, rw data_same, rw data_same)
-      shown (Refused n p) = (refl, refl, refl)

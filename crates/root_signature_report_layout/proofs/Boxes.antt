@@ -1,23 +1,23 @@
 -- Worked examples of the report, as rows of one list: what the definitions give of a container, and beside it what the request says.
 -- Assumes nothing.
+use Rattle.std.specs.Prelude.{Result, Ok, Err, Some}
 use Prim.Native.Nat.{ℕ}
 use mathlib.Core.Path.{◌≡◌, refl}
 use mathlib.Core.List.{List, [], ◌∷◌, ◌++◌}
 use lib.ListN.{replicate}
 use Rattle.wire.specs.Number.{u16_at, u32_at}
-use Rattle.wire.specs.Verdict.{◌then◌, check, when, from, each}
-use Rattle.wire.specs.declared.Verdict.TheVariants.{Accepted, Refused}
+use Rattle.wire.specs.Verdict.{◌then◌, check, when, from, each, under}
+use Rattle.wire.specs.declared.Refusal.{Refusal}
 use Rattle.part_table_layout.specs.Lookup.{find}
 use Rattle.part_table_layout.specs.Table.{count_of, offset_at, name_at, size_at, data_at, end_at, earliest, part_judged, may_repeat, may_stand, name_judged, header_judged, parts_judged, table_judged}
 use Rattle.psv0_layout.specs.Judged.{head_judged, fields_judged, body_fits, elements_judged, entry_judged, judged_at}
 use Rattle.psv0_layout.specs.Layout.{counted, after_counted, counted_fits, records, after_records, records_fit, sections, body_of, seen}
-use Rattle.psv0_layout.specs.declared.Field.TheVariants.{Set, Unset}
 use Rattle.container_layout.specs.Container.{psv_of, before_psv, container_judged}
 use Rattle.container_layout.specs.Report.{data_named, reported}
 use Rattle.root_signature_layout.specs.Root.{in11, range_size, parameter_at, type_at, visibility_at, data_at as data_of, data_size, ranges_of, range_at, header_judged as root_header_judged, own_judged, type_judged, data_judged, ranges_judged, parameter_judged, item_judged, root_judged, parameter_of, item_at, range_of, header_of, item_there, range_there}
-use Rattle.root_signature_layout.specs.declared.Item.TheVariants.{Table, Unset as NoItem}
-use Rattle.root_signature_layout.specs.declared.ItemAnswer.{ItemAnswer}
-use Rattle.root_signature_layout.specs.declared.RangeAnswer.{RangeAnswer}
+use Rattle.root_signature_layout.specs.declared.DescriptorRange.{DescriptorRange}
+use Rattle.root_signature_layout.specs.declared.Item.{Item}
+use Rattle.root_signature_layout.specs.declared.Item.TheVariants.{Table}
 use Rattle.root_signature_report_layout.specs.Reported.{root_reported, root_report_of, item_reported, item_report_of, range_report_of}
 use Rattle.root_signature_report_layout.specs.declared.RootReport.{RootReport}
 
@@ -42,9 +42,9 @@ box x y =
     ++ (y ∷ 84 ∷ 83 ∷ 48 ∷ []) ++ word 68 ++ table
 
 pub data Row : Type 0 where
-  reports : RootReport → Row
-  items : ItemAnswer → Row
-  ranges : RangeAnswer → Row
+  reports : Result RootReport Refusal → Row
+  items : Result Item Refusal → Row
+  ranges : Result DescriptorRange Refusal → Row
 
 abbrev given : List Row
 given =
@@ -58,23 +58,23 @@ given =
     ∷ ranges (range_report_of 0 (box 68 82) 0 1)
     ∷ []
 
-abbrev refused : ℕ → RootReport
-refused n = record { verdict = Refused n 0; header = record { version = 0; parameters = 0; samplers = 0; flags = 0 }; start = 0; len = 0 }
+abbrev refused : {A : Type 0} → ℕ → Result A Refusal
+refused n = Err (record { number = n; place = 0 })
 
 abbrev said : List Row
 said =
     -- the header and the part's data; a part that is absent; the opening's refusals, of edition 4 and without a DXIL part
-    reports (record { verdict = Accepted; header = record { version = 2; parameters = 1; samplers = 0; flags = 1 }; start = 104; len = 68 })
+    reports (Ok (record { header = record { version = 2; parameters = 1; samplers = 0; flags = 1 }; start = 104; len = 68 }))
     ∷ reports (refused 26)
     ∷ reports (refused 25)
     ∷ reports (refused 10)
-    ∷ items (record { verdict = Accepted; item = Table 5 1 44 })
-    ∷ items (record { verdict = Refused 26 0; item = NoItem })
+    ∷ items (Ok (Table 5 1 44))
+    ∷ items (refused 26)
     -- flags 0 and an offset that appends, as compilers write them
-    ∷ ranges (record { verdict = Accepted; range = record { range_type = 1; descriptors = 2; base_register = 3; space = 4; flags = Set 0; offset = 4294967295 } })
-    ∷ ranges (record { verdict = Refused 26 0; range = record { range_type = 0; descriptors = 0; base_register = 0; space = 0; flags = Unset; offset = 0 } })
+    ∷ ranges (Ok (record { range_type = 1; descriptors = 2; base_register = 3; space = 4; flags = Some 0; offset = 4294967295 }))
+    ∷ ranges (refused 26)
     ∷ []
 
 pub boxes_hold : given ≡ said
-unfolding u16_at u32_at ◌then◌ check when from each find count_of offset_at name_at size_at data_at end_at earliest part_judged may_repeat may_stand name_judged header_judged parts_judged table_judged head_judged fields_judged body_fits elements_judged entry_judged judged_at counted after_counted counted_fits records after_records records_fit sections body_of seen psv_of before_psv container_judged data_named reported in11 range_size parameter_at type_at visibility_at data_of data_size ranges_of range_at root_header_judged own_judged type_judged data_judged ranges_judged parameter_judged item_judged root_judged parameter_of item_at range_of header_of item_there range_there root_reported root_report_of item_reported item_report_of range_report_of
+unfolding u16_at u32_at ◌then◌ check when from each under find count_of offset_at name_at size_at data_at end_at earliest part_judged may_repeat may_stand name_judged header_judged parts_judged table_judged head_judged fields_judged body_fits elements_judged entry_judged judged_at counted after_counted counted_fits records after_records records_fit sections body_of seen psv_of before_psv container_judged data_named reported in11 range_size parameter_at type_at visibility_at data_of data_size ranges_of range_at root_header_judged own_judged type_judged data_judged ranges_judged parameter_judged item_judged root_judged parameter_of item_at range_of header_of item_there range_there root_reported root_report_of item_reported item_report_of range_report_of
 boxes_hold = refl

@@ -3,12 +3,10 @@
 #![tactic(auto)]
 
 use root_signature_layout::RootHeader;
-use wire::Verdict;
 
-// The verdict, the header, and the part's data as a stretch of the container. A refusal has zeros.
+// The header, and the part's data as a stretch of the container.
 #[derive(Clone, Copy)]
 pub struct RootReport {
-    pub verdict: Verdict,
     pub header: RootHeader,
     pub start: usize,
     pub len: usize,

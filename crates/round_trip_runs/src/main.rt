@@ -2,282 +2,158 @@
 // again from what the reading hands out: compared with the file stdout. An unset value is `-`.
 #![tactic(auto)]
 
-use psv0_layout::{ElementRecord, Field, ResourceRecord, RuntimeInfo, Section, View};
-use wire::Verdict;
-
-// Standard output.
-const STDOUT_FILENO: i32 = 1;
+use printing::text;
+use psv0_layout::{ElementRecord, ListLengths, ResourceRecord, RuntimeInfo, Section, View};
+use psv0_writer::Sections;
+use runs::{either, number, refused, stretch};
+use wire::Refusal;
 
 // ---- printing
 
-fn print(s: &[u8]) {
-    io::write_all(STDOUT_FILENO, s);
-}
-
-fn number(n: usize) {
-    print(b" ");
-    io::print_decimal(STDOUT_FILENO, n as u64);
-}
-
-fn refused(n: u8, place: usize) {
-    print(b" refused");
-    number(n as usize);
-    number(place);
-}
-
 // A writer's answer.
-fn wrote(label: &[u8], v: Verdict, len: usize) {
-    print(label);
-    match v {
-        Verdict::Refused(n, place) => refused(n, place),
-        Verdict::Accepted => number(len),
+fn wrote(label: &[u8], answer: Result<usize, Refusal>) {
+    text(label);
+    match answer {
+        Err(r) => refused(r),
+        Ok(len) => number(len),
     }
 }
 
 fn compared(a: &[u8], b: &[u8]) {
-    if check::same(a, b) {
-        print(b" same");
-    } else {
-        print(b" other");
+    either(check::same(a, b), b" same", b" other");
+}
+
+fn fields(label: &[u8], values: &[Option<u32>]) {
+    text(label);
+    for value in values {
+        match value {
+            Some(n) => number(*n as usize),
+            None => text(b" -"),
+        }
     }
-}
-
-fn field(f: Field) {
-    match f {
-        Field::Set(n) => number(n as usize),
-        Field::Unset => print(b" -"),
-    }
-}
-
-fn two(label: &[u8], a: Field, b: Field) {
-    print(label);
-    field(a);
-    field(b);
-}
-
-fn three(label: &[u8], a: Field, b: Field, c: Field) {
-    two(label, a, b);
-    field(c);
 }
 
 // Numbers of 4 bytes.
 fn words(s: &[u8]) {
-    let n = s.len() / 4;
-    let mut i = 0;
-    while i < n {
-        number(wire::u32_at(s, 4 * i) as usize);
-        i += 1;
+    for word in s.chunks_exact(4) {
+        number(wire::u32_at(word, 0) as usize);
     }
-}
-
-// ---- parts of slices
-
-// So many bytes of a slice from a place on; none where they are not all there.
-fn stretch(s: &[u8], from: usize, len: usize) -> &[u8] {
-    if from <= s.len() {
-        if len <= s.len() - from {
-            let to = from + len;
-            return &s[from..to];
-        }
-    }
-    &s[0..0]
-}
-
-fn front(s: &[u8], len: usize) -> &[u8] {
-    stretch(s, 0, len)
-}
-
-fn of_buffer(out: &[u8; 1024], from: usize, len: usize) -> &[u8] {
-    stretch(out, from, len)
-}
-
-fn of_words(words: &[u8; 200], from: usize, len: usize) -> &[u8] {
-    stretch(words, from, len)
 }
 
 // Puts bytes at a place and answers the place after them; where they do not fit, nothing changes.
 fn put(out: &mut [u8], at: usize, s: &[u8]) -> usize {
-    if at <= out.len() {
-        if s.len() <= out.len() - at {
-            let end = at + s.len();
-            wire::copy(&mut out[at..end], s);
-            return end;
-        }
+    if at <= out.len() && s.len() <= out.len() - at {
+        out[at..at + s.len()].copy_from_slice(s);
+        return at + s.len();
     }
     at
 }
 
 // ---- what a reading shows
 
-fn show_record(i: RuntimeInfo) {
-    let a = i.minimum_wave_lanes;
-    let b = i.maximum_wave_lanes;
-    let c = i.stage;
-    let d = i.uses_view_id;
-    let e = i.max_vertex_count;
-    let f = i.patch_vectors;
-    let g = i.mesh_topology;
-    two(b"  lanes", a, b);
-    two(b" stage and view", c, d);
-    three(b" vertices, patch and topology", e, f, g);
+fn show_info(i: RuntimeInfo) {
+    fields(b"  lanes", &[i.minimum_wave_lanes, i.maximum_wave_lanes]);
+    fields(b" stage and view", &[i.stage, i.uses_view_id]);
+    fields(
+        b" vertices, patch and topology",
+        &[i.max_vertex_count, i.patch_vectors, i.mesh_topology],
+    );
+    fields(
+        b"\n  elements",
+        &[i.input_elements, i.output_elements, i.patch_elements],
+    );
+    fields(
+        b" vectors",
+        &[
+            i.input_vectors,
+            i.output_vectors_0,
+            i.output_vectors_1,
+            i.output_vectors_2,
+            i.output_vectors_3,
+        ],
+    );
+    fields(b" threads", &[i.threads_x, i.threads_y, i.threads_z]);
+    fields(b" entry name at", &[i.entry_name_offset]);
 }
 
-fn show_counts(i: RuntimeInfo) {
-    let a = i.input_elements;
-    let b = i.output_elements;
-    let c = i.patch_elements;
-    let d = i.input_vectors;
-    let e = i.output_vectors_0;
-    let f = i.output_vectors_1;
-    let g = i.output_vectors_2;
-    let h = i.output_vectors_3;
-    three(b"\n  elements", a, b, c);
-    two(b" vectors", d, e);
-    three(b"", f, g, h);
-}
-
-fn show_threads(i: RuntimeInfo) {
-    let a = i.threads_x;
-    let b = i.threads_y;
-    let c = i.threads_z;
-    let d = i.entry_name_offset;
-    three(b" threads", a, b, c);
-    print(b" entry name at");
-    field(d);
-}
-
-fn show_info(b: &[u8], k: usize) {
-    let a = container::runtime_info(b, k);
-    let i = a.info;
-    show_record(i);
-    show_counts(i);
-    show_threads(i);
-}
-
-fn show_lengths(b: &[u8], k: usize) {
-    let a = container::lengths(b, k);
-    let l = a.lengths;
-    let r = l.resources;
-    let t = l.strings;
-    let n = l.indices;
-    let e = l.elements;
-    two(b"\n  resources, strings", r, t);
-    two(b" indices, elements", n, e);
-    print(b"\n");
+fn show_lengths(l: ListLengths) {
+    fields(b"\n  resources, strings", &[l.resources, l.strings]);
+    fields(b" indices, elements", &[l.indices, l.elements]);
+    text(b"\n");
 }
 
 fn bindings(r: ResourceRecord) {
-    let a = r.binding_type;
-    let b = r.space;
-    let c = r.lower_bound;
-    let d = r.upper_bound;
-    let e = r.kind;
-    let f = r.flags;
-    three(b"", a, b, c);
-    three(b"", d, e, f);
+    fields(b"", &[r.binding_type, r.space, r.lower_bound]);
+    fields(b"", &[r.upper_bound, r.kind, r.flags]);
 }
 
 fn show_resource(b: &[u8], k: usize, i: usize) {
-    print(b"  resource");
+    text(b"  resource");
     number(i);
-    print(b":");
-    let a = container::resource(b, k, i);
-    let v = a.verdict;
-    match v {
-        Verdict::Refused(n, place) => refused(n, place),
-        Verdict::Accepted => bindings(a.resource),
+    text(b":");
+    match container::resource(b, k, i) {
+        Err(r) => refused(r),
+        Ok(resource) => bindings(resource),
     }
-    print(b"\n");
+    text(b"\n");
 }
 
-fn text(b: &[u8], k: usize, view: View) {
-    let s = container::view_span(b, k, view);
-    let v = s.verdict;
-    match v {
-        Verdict::Refused(n, place) => refused(n, place),
-        Verdict::Accepted => {
-            print(b" `");
-            print(container::view_bytes(b, k, view));
-            print(b"`");
+fn show_text(b: &[u8], k: usize, view: View) {
+    match container::view_span(b, k, view) {
+        Err(r) => refused(r),
+        Ok(_) => {
+            text(b" `");
+            text(container::view_bytes(b, k, view));
+            text(b"`");
         }
     }
 }
 
 fn array(b: &[u8], k: usize, view: View) {
-    let s = container::view_span(b, k, view);
-    let v = s.verdict;
-    match v {
-        Verdict::Refused(n, place) => refused(n, place),
-        Verdict::Accepted => words(container::view_bytes(b, k, view)),
+    match container::view_span(b, k, view) {
+        Err(r) => refused(r),
+        Ok(_) => words(container::view_bytes(b, k, view)),
     }
 }
 
 fn placing(e: ElementRecord) {
-    let a = e.name_offset;
-    let b = e.index_reference;
-    let c = e.rows;
-    let d = e.start_row;
-    let f = e.columns;
-    let g = e.start_column;
-    let h = e.allocated;
-    two(b"", a, b);
-    two(b" rows", c, d);
-    three(b" columns", f, g, h);
+    fields(b"", &[e.name_offset, e.index_reference]);
+    fields(b" rows", &[e.rows, e.start_row]);
+    fields(b" columns", &[e.columns, e.start_column, e.allocated]);
 }
 
 fn kinds(e: ElementRecord) {
-    let a = e.semantic_kind;
-    let b = e.component_type;
-    let c = e.interpolation;
-    let d = e.dynamic_mask;
-    let f = e.stream;
-    let g = e.reserved;
-    three(b" kind", a, b, c);
-    three(b" mask", d, f, g);
+    fields(
+        b" kind",
+        &[e.semantic_kind, e.component_type, e.interpolation],
+    );
+    fields(b" mask", &[e.dynamic_mask, e.stream, e.reserved]);
 }
 
 fn show_element(b: &[u8], k: usize, i: usize) {
-    print(b"  element");
+    text(b"  element");
     number(i);
-    print(b":");
-    let a = container::element(b, k, i);
-    let v = a.verdict;
-    match v {
-        Verdict::Refused(n, place) => refused(n, place),
-        Verdict::Accepted => {
-            placing(a.element);
-            kinds(a.element);
+    text(b":");
+    match container::element(b, k, i) {
+        Err(r) => refused(r),
+        Ok(element) => {
+            placing(element);
+            kinds(element);
         }
     }
-    print(b", string");
-    text(b, k, View::ElementString(i));
-    print(b", array");
+    text(b", string");
+    show_text(b, k, View::ElementString(i));
+    text(b", array");
     array(b, k, View::ElementArray(i));
-    print(b"\n");
-}
-
-// The elements, and one that isn't there.
-fn show_elements(b: &[u8], k: usize, count: usize) {
-    let mut i = 0;
-    while i < count {
-        show_element(b, k, i);
-        i += 1;
-    }
-    show_element(b, k, count);
-}
-
-fn show_mask(b: &[u8], k: usize, i: usize) {
-    print(b" [");
-    array(b, k, View::Mask(i));
-    print(b" ]");
+    text(b"\n");
 }
 
 // Masks 0 to 10, and 11, which isn't there.
 fn show_masks(b: &[u8], k: usize) {
-    let mut i = 0;
-    while i < 12 {
-        show_mask(b, k, i);
-        i += 1;
+    for i in 0..12 {
+        text(b" [");
+        array(b, k, View::Mask(i));
+        text(b" ]");
     }
 }
 
@@ -285,59 +161,73 @@ fn show_masks(b: &[u8], k: usize) {
 fn show_section(b: &[u8], k: usize, section: Section, given: &[u8]) {
     let s = container::section_bytes(b, k, section);
     number(s.len());
-    compared(s, front(given, s.len()));
+    compared(s, stretch(given, 0, s.len()));
 }
 
-fn show_sections(b: &[u8], k: usize, r: &[u8], s: &[u8], t: &[u8], x: &[u8], e: &[u8], m: &[u8]) {
-    print(b"  to write again");
-    show_section(b, k, Section::RuntimeRecord, r);
-    show_section(b, k, Section::ResourceRecords, s);
-    show_section(b, k, Section::StringTable, t);
-    show_section(b, k, Section::IndexTable, x);
-    show_section(b, k, Section::ElementRecords, e);
-    show_section(b, k, Section::Masks, m);
-    print(b"\n");
+fn show_sections(b: &[u8], k: usize, given: Sections) {
+    text(b"  to write again");
+    show_section(b, k, Section::RuntimeRecord, given.runtime);
+    show_section(b, k, Section::ResourceRecords, given.resources);
+    show_section(b, k, Section::StringTable, given.strings);
+    show_section(b, k, Section::IndexTable, given.indices);
+    show_section(b, k, Section::ElementRecords, given.elements);
+    show_section(b, k, Section::Masks, given.masks);
+    text(b"\n");
 }
 
-// All but the sections; of the elements, so many and one more.
+// All but the sections: three resources; of the elements, so many and one that isn't there.
 fn show_values(b: &[u8], k: usize, count: usize) {
-    print(b"  union");
-    text(b, k, View::StageUnion);
-    print(b" entry name");
-    text(b, k, View::EntryName);
-    print(b"\n");
-    show_info(b, k);
-    show_lengths(b, k);
-    show_resource(b, k, 0);
-    show_resource(b, k, 1);
-    show_resource(b, k, 2);
-    show_elements(b, k, count);
-    print(b"  masks");
+    text(b"  union");
+    show_text(b, k, View::StageUnion);
+    text(b" entry name");
+    show_text(b, k, View::EntryName);
+    text(b"\n");
+    match container::runtime_info(b, k) {
+        Err(r) => refused(r),
+        Ok(info) => show_info(info),
+    }
+    match container::lengths(b, k) {
+        Err(r) => refused(r),
+        Ok(lengths) => show_lengths(lengths),
+    }
+    for i in 0..3 {
+        show_resource(b, k, i);
+    }
+    for i in 0..count {
+        show_element(b, k, i);
+    }
+    show_element(b, k, count);
+    text(b"  masks");
     show_masks(b, k);
-    print(b"\n");
+    text(b"\n");
 }
 
 fn show_opening(b: &[u8], k: usize) {
-    let o = container::open(b, k);
-    print(b" reader");
+    text(b" reader");
     number(k);
-    let v = o.verdict;
-    wrote(b" parts", v, o.parts);
-    print(b" edition");
-    number(o.file_edition);
-    print(b" read as");
-    number(o.edition_read);
-    print(b"\n");
+    match container::open(b, k) {
+        Err(r) => refused(r),
+        Ok(opening) => {
+            text(b" parts");
+            number(opening.parts);
+            text(b" edition");
+            number(opening.file_edition);
+            text(b" read as");
+            number(opening.edition_read);
+        }
+    }
+    text(b"\n");
 }
 
-fn reading(b: &[u8], k: usize, r: &[u8], s: &[u8], t: &[u8], x: &[u8], e: &[u8], m: &[u8]) {
+fn reading(b: &[u8], k: usize, given: Sections) {
     show_opening(b, k);
-    show_values(b, k, e.len() / 16);
-    show_sections(b, k, r, s, t, x, e, m);
+    show_values(b, k, given.elements.len() / 16);
+    show_sections(b, k, given);
 }
 
 // ---- the container: DXIL, the PSV0 data and a part of an unknown name
 
+// The container's length; the PSV0 data stand at 5 in the data, and are of so many bytes.
 fn assembled(data: &mut [u8; 1024], len: usize, out: &mut [u8; 1024]) -> usize {
     if 1000 < len {
         return 0;
@@ -345,58 +235,65 @@ fn assembled(data: &mut [u8; 1024], len: usize, out: &mut [u8; 1024]) -> usize {
     put(data, 0, b"bytes");
     put(data, 5 + len, b"own");
     let sizes = [5u32, len as u32, 3];
-    let a = assembler::assemble(
+    let answer = assembler::assemble(
         b"DXILPSV0none",
         &sizes,
-        front(data, 8 + len),
+        stretch(data, 0, 8 + len),
         b"0123456789abcdef",
         out,
     );
-    let v = a.verdict;
-    wrote(b" assembled", v, a.len);
-    print(b"\n");
-    a.len
+    wrote(b" assembled", answer);
+    text(b"\n");
+    answer.unwrap_or(0)
 }
 
 fn show_part(b: &[u8], name: &[u8; 4], given: &[u8]) {
-    let p = container::part(b, 3, name);
-    print(b" ");
-    print(name);
-    number(p.number);
-    number(p.offset);
-    number(p.size);
+    text(b" ");
+    text(name);
+    match container::part(b, 3, name) {
+        Err(r) => refused(r),
+        Ok(part) => {
+            number(part.number);
+            number(part.offset);
+            number(part.size);
+        }
+    }
     compared(container::part_bytes(b, 3, name), given);
 }
 
 fn show_parts(b: &[u8], psv0: &[u8]) {
-    print(b" parts");
+    text(b" parts");
     show_part(b, b"DXIL", b"bytes");
     show_part(b, b"PSV0", psv0);
     show_part(b, b"none", b"own");
-    print(b" digest");
+    text(b" digest");
     compared(stretch(b, 4, 16), b"0123456789abcdef");
-    print(b"\n");
+    text(b"\n");
 }
 
 // PSV0 data written again from all that reader 3 hands out, beside those of the part.
+fn write_again(b: &[u8], out: &mut [u8]) -> Result<usize, Refusal> {
+    let opening = container::open(b, 3)?;
+    let handed = Sections {
+        runtime: container::section_bytes(b, 3, Section::RuntimeRecord),
+        resources: container::section_bytes(b, 3, Section::ResourceRecords),
+        strings: container::section_bytes(b, 3, Section::StringTable),
+        indices: container::section_bytes(b, 3, Section::IndexTable),
+        elements: container::section_bytes(b, 3, Section::ElementRecords),
+        masks: container::section_bytes(b, 3, Section::Masks),
+    };
+    handed.write(opening.edition_read, out)
+}
+
 fn again(b: &[u8]) {
-    let o = container::open(b, 3);
     let mut out = [0u8; 1024];
-    let w = psv0_writer::write(
-        o.edition_read,
-        container::section_bytes(b, 3, Section::RuntimeRecord),
-        container::section_bytes(b, 3, Section::ResourceRecords),
-        container::section_bytes(b, 3, Section::StringTable),
-        container::section_bytes(b, 3, Section::IndexTable),
-        container::section_bytes(b, 3, Section::ElementRecords),
-        container::section_bytes(b, 3, Section::Masks),
-        &mut out,
+    let answer = write_again(b, &mut out);
+    wrote(b" written again", answer);
+    compared(
+        stretch(&out, 0, answer.unwrap_or(0)),
+        container::part_bytes(b, 3, b"PSV0"),
     );
-    let v = w.verdict;
-    let len = w.len;
-    wrote(b" written again", v, len);
-    compared(front(&out, len), container::part_bytes(b, 3, b"PSV0"));
-    print(b"\n");
+    text(b"\n");
 }
 
 // ---- a widening: 4 bytes more in the runtime record, in each of two resource records and of three element records, and at the end
@@ -407,66 +304,61 @@ fn wider(out: &mut [u8; 1024], at: usize, s: &[u8], from: usize, len: usize) -> 
     put(out, end, b"more")
 }
 
-fn wider_head(out: &mut [u8; 1024], r: &[u8], s: &[u8]) -> usize {
+fn wider_head(out: &mut [u8; 1024], given: Sections) -> usize {
     let runtime = put(out, 5, b"\x38\x00\x00\x00");
-    let count = wider(out, runtime, r, 0, 52);
+    let count = wider(out, runtime, given.runtime, 0, 52);
     let first = put(out, count, b"\x02\x00\x00\x00\x1c\x00\x00\x00");
-    let second = wider(out, first, s, 0, 24);
-    wider(out, second, s, 24, 24)
+    let second = wider(out, first, given.resources, 0, 24);
+    wider(out, second, given.resources, 24, 24)
 }
 
-fn tables(out: &mut [u8; 1024], at: usize, t: &[u8], x: &[u8]) -> usize {
+fn tables(out: &mut [u8; 1024], at: usize, given: Sections) -> usize {
     let strings = put(out, at, b"\x10\x00\x00\x00");
-    let count = put(out, strings, t);
+    let count = put(out, strings, given.strings);
     let indices = put(out, count, b"\x06\x00\x00\x00");
-    put(out, indices, x)
+    put(out, indices, given.indices)
 }
 
-fn wider_elements(out: &mut [u8; 1024], at: usize, e: &[u8], m: &[u8]) -> usize {
+fn wider_elements(out: &mut [u8; 1024], at: usize, given: Sections) -> usize {
     let first = put(out, at, b"\x14\x00\x00\x00");
-    let second = wider(out, first, e, 0, 16);
-    let third = wider(out, second, e, 16, 16);
-    let masks = wider(out, third, e, 32, 16);
-    wider(out, masks, m, 0, 44)
+    let second = wider(out, first, given.elements, 0, 16);
+    let third = wider(out, second, given.elements, 16, 16);
+    let masks = wider(out, third, given.elements, 32, 16);
+    wider(out, masks, given.masks, 0, 44)
 }
 
-fn widening(r: &[u8], s: &[u8], t: &[u8], x: &[u8], e: &[u8], m: &[u8]) {
+fn widening(given: Sections) {
     let mut data = [170u8; 1024];
-    let head = wider_head(&mut data, r, s);
-    let body = tables(&mut data, head, t, x);
-    let end = wider_elements(&mut data, body, e, m);
-    if end < 5 {
-        return;
-    }
-    let psv0_len = end - 5;
+    let head = wider_head(&mut data, given);
+    let body = tables(&mut data, head, given);
+    let end = wider_elements(&mut data, body, given);
+    let psv0_len = end.saturating_sub(5);
     let mut out = [170u8; 1024];
-    print(b" widened");
+    text(b" widened");
     let len = assembled(&mut data, psv0_len, &mut out);
-    let b = of_buffer(&out, 0, len);
-    show_parts(b, of_buffer(&data, 5, psv0_len));
+    let b = stretch(&out, 0, len);
+    show_parts(b, stretch(&data, 5, psv0_len));
     show_opening(b, 3);
     show_values(b, 3, 3);
 }
 
 // ---- all of it
 
-fn round_trip(edition: usize, r: &[u8], s: &[u8], t: &[u8], x: &[u8], e: &[u8], m: &[u8]) {
+fn round_trip(edition: usize, given: Sections) {
     let mut data = [170u8; 1024];
-    let w = psv0_writer::write(edition, r, s, t, x, e, m, &mut data[5..]);
-    let v = w.verdict;
-    let psv0_len = w.len;
-    wrote(b" written", v, psv0_len);
+    let answer = given.write(edition, &mut data[5..]);
+    wrote(b" written", answer);
+    let psv0_len = answer.unwrap_or(0);
     let mut out = [170u8; 1024];
     let len = assembled(&mut data, psv0_len, &mut out);
-    let b = of_buffer(&out, 0, len);
-    show_parts(b, of_buffer(&data, 5, psv0_len));
-    reading(b, 0, r, s, t, x, e, m);
-    reading(b, 1, r, s, t, x, e, m);
-    reading(b, 2, r, s, t, x, e, m);
-    reading(b, 3, r, s, t, x, e, m);
+    let b = stretch(&out, 0, len);
+    show_parts(b, stretch(&data, 5, psv0_len));
+    for k in 0..4 {
+        reading(b, k, given);
+    }
     again(b);
     if edition == 3 {
-        widening(r, s, t, x, e, m);
+        widening(given);
     }
 }
 
@@ -491,12 +383,12 @@ fn record(stage: [u8; 2], p: [u8; 2], counts: [u8; 3], u: u8, v: [u8; 4]) -> [u8
 }
 
 // The numbers from 1000 on: 12 for two resources, then those of the masks.
-fn numbered(words: &mut [u8; 200]) {
-    let mut k: u32 = 0;
-    while k < 50 {
-        wire::put_u32(words, 4 * (k as usize), 1000 + k);
-        k += 1;
+fn numbered() -> [u8; 200] {
+    let mut words = [0u8; 200];
+    for k in 0..50 {
+        wire::put_u32(&mut words, 4 * k, 1000 + k as u32);
     }
+    words
 }
 
 fn indices() -> [u8; 24] {
@@ -547,21 +439,20 @@ fn elements() -> [u8; 96] {
 
 // Sections of these lengths: runtime, resources, strings, indices, elements, masks.
 fn case(label: &[u8], edition: usize, r: [u8; 52], n: [usize; 6]) {
-    let mut words = [0u8; 200];
-    numbered(&mut words);
+    let words = numbered();
     let x = indices();
     let e = elements();
-    print(label);
-    print(b":\n");
-    round_trip(
-        edition,
-        front(&r, n[0]),
-        of_words(&words, 0, n[1]),
-        front(b"\x00main\x00POS\x00TEX\x00\x00\x00", n[2]),
-        front(&x, n[3]),
-        front(&e, n[4]),
-        of_words(&words, 48, n[5]),
-    );
+    text(label);
+    text(b":\n");
+    let given = Sections {
+        runtime: stretch(&r, 0, n[0]),
+        resources: stretch(&words, 0, n[1]),
+        strings: stretch(b"\x00main\x00POS\x00TEX\x00\x00\x00", 0, n[2]),
+        indices: stretch(&x, 0, n[3]),
+        elements: stretch(&e, 0, n[4]),
+        masks: stretch(&words, 48, n[5]),
+    };
+    round_trip(edition, given);
 }
 
 fn main() {

@@ -1,79 +1,63 @@
 // settings VERSION FILE: prints the rows of a settings file of at most 65,536 bytes, and what it settles at a version.
 #![tactic(auto)]
 
-use arguments::Contents;
-use printing::{number, text};
-use settings_layout::Setting;
-use wire::Verdict;
-use words::Named;
+use arguments::FileError;
+use printing::{number, pair, text, value};
+use settings_layout::{Row, Settings};
+use wire::Refusal;
 
-// A name and a number further on in a line.
-fn pair(name: &[u8], n: u32) {
-    text(name);
-    number(n as usize);
-}
-
-fn row(i: usize, version: u32, key: u32, value: u32) {
+fn row(i: usize, row: Row) {
     text(b"row ");
     number(i);
-    pair(b" version ", version);
-    pair(b" key ", key);
-    pair(b" value ", value);
+    pair(b" version ", row.version);
+    pair(b" key ", row.key);
+    pair(b" value ", row.value);
     text(b"\n");
 }
 
 // The rows of a file that is accepted, each by itself, so that the file is judged once.
-fn rows(d: &[u8], n: usize, first: usize) {
-    let mut at = first;
+fn rows(d: &[u8], settings: Settings) -> Result<(), Refusal> {
+    let mut at = settings.first;
     let mut last = 0;
-    let mut i = 0;
-    while i < n {
-        let a = settings_reader::row_alone(d, at, last);
-        let r = a.row;
-        row(i, r.version, r.key, r.value);
-        at = a.end;
-        last = r.version;
-        i += 1;
+    for i in 0..settings.rows {
+        let alone = settings_reader::row_alone(d, at, last)?;
+        row(i, alone.row);
+        at = alone.end;
+        last = alone.row.version;
     }
+    Ok(())
 }
 
-fn setting(name: &[u8], d: &[u8], key: u32, version: u32) {
-    let a = settings_reader::value(d, key, version);
-    let s = a.setting;
+fn setting(name: &[u8], setting: Option<u32>) {
     text(name);
-    match s {
-        Setting::Set(n) => number(n as usize),
-        Setting::Unset => text(b"unset"),
-    }
+    value(setting);
     text(b"\n");
 }
 
+fn all(d: &[u8], version: u32) -> Result<(), Refusal> {
+    let settings = settings_reader::read(d)?;
+    text(b"rows ");
+    number(settings.rows);
+    text(b"\n");
+    rows(d, settings)?;
+    setting(b"least_edition ", settings_reader::value(d, 1, version)?);
+    setting(b"greatest_length ", settings_reader::value(d, 2, version)?);
+    setting(b"private_allowed ", settings_reader::value(d, 3, version)?);
+    Ok(())
+}
+
 fn show(d: &[u8], version: u32) {
-    let a = settings_reader::read(d);
-    let v = a.verdict;
-    match v {
-        Verdict::Refused(n, place) => printing::refusal(n, place),
-        Verdict::Accepted => {
-            text(b"rows ");
-            number(a.rows);
-            text(b"\n");
-            rows(d, a.rows, a.first);
-            setting(b"least_edition ", d, 1, version);
-            setting(b"greatest_length ", d, 2, version);
-            setting(b"private_allowed ", d, 3, version);
-        }
+    if let Err(r) = all(d, version) {
+        printing::refusal(r);
     }
 }
 
 fn show_file(rt: &HostRuntime, version: u32) {
     let mut buffer = io::large_buffer();
-    let r = arguments::file(rt, 2, &mut buffer);
-    let contents = r.contents;
-    let len = r.len;
-    match contents {
-        Contents::Whole => show(&buffer[..len], version),
-        Contents::TooLong => text(b"too long\n"),
-        Contents::CannotOpen => text(b"cannot open\n"),
+    match arguments::file(rt, 2, &mut buffer) {
+        Ok(d) => show(d, version),
+        Err(FileError::TooLong) => text(b"too long\n"),
+        Err(FileError::CannotOpen) => text(b"cannot open\n"),
     }
 }
 
@@ -87,9 +71,8 @@ fn main(rt: HostRuntime) {
         usage();
         return;
     }
-    let version = arguments::number(&rt, 1);
-    match version {
-        Named::Number(v) => show_file(&rt, v),
-        Named::Greater | Named::Nothing => usage(),
+    match arguments::number(&rt, 1) {
+        Ok(version) => show_file(&rt, version),
+        Err(_) => usage(),
     }
 }

@@ -8,8 +8,7 @@ use native.Mathlib.Omega.{arith}
 use lib.Dec.{ltb}
 use lib.ListN.{length, get_or, length-append}
 use Rattle.wire.specs.Choice.{choose}
-use Rattle.wire.specs.Verdict.{◌then◌}
-use Rattle.wire.specs.declared.Verdict.TheVariants.{Refused}
+use Rattle.wire.specs.Verdict.{◌then◌, Refused}
 use Rattle.settings_layout.specs.declared.Row.{Row}
 use Rattle.settings_layout.specs.Groups.{groups, in_groups}
 use Rattle.settings_layout.specs.File.{judged}

@@ -8,8 +8,7 @@ use lib.Dec.{leb}
 use lib.ListN.{length}
 use borrow.Author.Tests.{le-leb, eqb-true, eq-eqb}
 use Rattle.wire.specs.Number.{Bytes}
-use Rattle.wire.specs.Verdict.{◌then◌, check}
-use Rattle.wire.specs.declared.Verdict.TheVariants.{Accepted}
+use Rattle.wire.specs.Verdict.{◌then◌, check, Accepted}
 use Rattle.wire.proofs.Verdicts.{then_accepted, check_then, checked, accepted_then}
 use Rattle.settings_layout.specs.declared.Row.{Row}
 use Rattle.settings_layout.specs.Groups.{value_of, in_groups}

@@ -10,12 +10,12 @@ use lib.ListN.{length, drop, length-drop}
 use lib.Seq.{drop_at, drop-drop}
 use borrow.Author.Tests.{ltb-true, ltb-false, leb-true, eqb-true}
 use Rattle.wire.specs.Number.{Bytes}
-use Rattle.wire.specs.declared.Verdict.TheVariants.{Accepted, Refused}
+use Rattle.wire.specs.Verdict.{Accepted, Refused}
 use Rattle.wire.proofs.Numbers.{bytes_drop}
 use Rattle.wire.proofs.Verdicts.{then_accepted, check_then, check_accepted}
 use Rattle.settings_layout.specs.declared.Number.{Number}
-use Rattle.settings_layout.specs.declared.Number.TheVariants.{Good, Bad}
-use Rattle.settings_layout.specs.Groups.{number, value_if, size_if, value_of, size_of, after, in_groups}
+use Rattle.std.specs.Prelude.{Result, Ok, Err}
+use Rattle.settings_layout.specs.Groups.{good, number, value_if, size_if, value_of, size_of, after, in_groups}
 use Rattle.settings_layout.specs.Rules.{key_known, in_range, may_follow}
 use Rattle.settings_layout.specs.File.{number_if, number_judged, row_size, row_end, row_judged, rows_judged, judged}
 use Rattle.settings_layout.proofs.Groupings.{first_laid, first_large, first_told, first_inside}
@@ -25,19 +25,19 @@ pub refused_not : {A : Type 0} (n p : ℕ) → Refused n p ≡ Accepted → A
 refused_not n p e = absurd (let z : ◌≡◌ {A = ℕ} 0 1 = cc in omega arith)
 
 -- ---- a number
-pub good_number : (p : ℕ) (l : List ℕ) → number_judged p l ≡ Accepted → number l ≡ Good (value_of l) (size_of l)
+pub good_number : (p : ℕ) (l : List ℕ) → number_judged p l ≡ Accepted → number l ≡ good (value_of l) (size_of l)
 unfolding number_judged number_if value_of size_of
 good_number p l e = go (number l) e
   where
-    go : (r : Number) → number_if r p ≡ Accepted → r ≡ Good (value_if r) (size_if r)
-    go (Good v s) h = refl
-    go (Bad n) h = refused_not n p h
+    go : (r : Result Number ℕ) → number_if r p ≡ Accepted → r ≡ good (value_if r) (size_if r)
+    go (Ok g) h = refl
+    go (Err n) h = refused_not n p h
 
-pub number_accepted : (p : ℕ) (l : List ℕ) (v s : ℕ) → number l ≡ Good v s → number_judged p l ≡ Accepted
+pub number_accepted : (p : ℕ) (l : List ℕ) (v s : ℕ) → number l ≡ good v s → number_judged p l ≡ Accepted
 unfolding number_judged number_if
 number_accepted p l v s e = rw e
 
-pub number_refused : (p : ℕ) (l : List ℕ) (n : ℕ) → number l ≡ Bad n → number_judged p l ≡ Refused n p
+pub number_refused : (p : ℕ) (l : List ℕ) (n : ℕ) → number l ≡ Err n → number_judged p l ≡ Refused n p
 unfolding number_judged number_if
 number_refused p l n e = rw e
 

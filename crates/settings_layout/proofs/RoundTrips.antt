@@ -6,11 +6,10 @@ use mathlib.Core.List.{List, [], ◌∷◌, ◌++◌}
 use lib.ListN.{length, take, drop}
 use lib.Seq.{take_at}
 use Rattle.wire.specs.Number.{Bytes}
-use Rattle.wire.specs.declared.Verdict.TheVariants.{Accepted}
+use Rattle.wire.specs.Verdict.{Accepted}
 use Rattle.settings_layout.specs.declared.Row.{Row}
-use Rattle.settings_layout.specs.declared.Number.TheVariants.{Good}
-use Rattle.settings_layout.specs.Groups.{number, value_of, after, groups, in_groups}
-use Rattle.settings_layout.proofs.Groupings.{first_laid, first_told}
+use Rattle.settings_layout.specs.Groups.{good, number, value_of, after, groups, in_groups}
+use Rattle.settings_layout.proofs.Groupings.{good_same, first_laid, first_told}
 use Rattle.settings_layout.specs.File.{number_judged, row_of, row_end, rows_judged, rows_from, judged, rows_of}
 use Rattle.settings_layout.specs.Laid.{row_laid, rows_laid, laid}
 use Rattle.settings_layout.specs.Checked.{RowFits}
@@ -98,13 +97,13 @@ pub one_form : (d e : List ℕ) → Bytes d → Bytes e → judged d ≡ Accepte
 one_form d e y z a b q = sym (written_again d y a) ∙ ap laid q ∙ written_again e z b
 
 -- ---- the same of a number by itself: what is read of it is its shortest form, so it has one form
-pub number_form : (l : List ℕ) (v s : ℕ) → Bytes l → number l ≡ Good v s → take s l ≡ in_groups v
+pub number_form : (l : List ℕ) (v s : ℕ) → Bytes l → number l ≡ good v s → take s l ≡ in_groups v
 unfolding in_groups
 number_form l v s y e =
     let t = first_told l v s y e in
-    let r : number l ≡ Good v (length (in_groups v)) = ap number (sym t.form) ∙ first_laid (drop s l) v t.small in
-    let q : s ≡ length (groups 4 v) = cc in
+    let r : number l ≡ good v (length (in_groups v)) = ap number (sym t.form) ∙ first_laid (drop s l) v t.small in
+    let q : s ≡ length (groups 4 v) = (good_same (sym e ∙ r)).1 in
     ap (take s) (sym t.form) ∙ take_at (groups 4 v) (drop s l) s (sym q)
 
-pub one_number : (l m : List ℕ) (v s t : ℕ) → Bytes l → Bytes m → number l ≡ Good v s → number m ≡ Good v t → take s l ≡ take t m
+pub one_number : (l m : List ℕ) (v s t : ℕ) → Bytes l → Bytes m → number l ≡ good v s → number m ≡ good v t → take s l ≡ take t m
 one_number l m v s t y z e f = number_form l v s y e ∙ sym (number_form m v t z f)

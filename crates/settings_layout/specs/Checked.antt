@@ -1,9 +1,7 @@
 -- How the writer's code goes about it: the same checks over the numbers that are given, without the result. That they are what reading the
 -- result gives is proved (GivenRows.judged_given).
 use Rattle.std.specs.Prelude.{List, [], ◌∷◌, ◌++◌, ℕ, ◌+◌, ◌<◌, length}
-use Rattle.wire.specs.Verdict.{◌then◌, check}
-use Rattle.wire.specs.declared.Verdict.{Verdict}
-use Rattle.wire.specs.declared.Verdict.TheVariants.{Accepted}
+use Rattle.wire.specs.Verdict.{◌then◌, check, Verdict, Accepted}
 use Rattle.settings_layout.specs.Groups.{in_groups}
 use Rattle.settings_layout.specs.Rules.{key_known, in_range, may_follow}
 use Rattle.settings_layout.specs.declared.Row.{Row}

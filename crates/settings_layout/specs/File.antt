@@ -1,22 +1,23 @@
 -- A settings file: "a row count, then rows of version, key and value".
-use Rattle.std.specs.Prelude.{List, [], ◌∷◌, ℕ, zero, suc, ◌+◌, leb, eqb, length}
-use Rattle.wire.specs.Verdict.{◌then◌, check}
-use Rattle.wire.specs.declared.Verdict.{Verdict}
-use Rattle.wire.specs.declared.Verdict.TheVariants.{Accepted, Refused}
+use Rattle.std.specs.Prelude.{Result, Ok, Err, List, [], ◌∷◌, ℕ, zero, suc, ◌+◌, leb, eqb, length}
+use Rattle.wire.specs.Verdict.{◌then◌, check, Verdict, Accepted, Refused}
 use Rattle.settings_layout.specs.declared.Number.{Number}
-use Rattle.settings_layout.specs.declared.Number.TheVariants.{Good, Bad}
 use Rattle.settings_layout.specs.declared.Row.{Row}
 use Rattle.settings_layout.specs.Groups.{number, value_of, size_of, after}
 use Rattle.settings_layout.specs.Rules.{row, most_rows, key_known, in_range, may_follow}
 
 -- 53 to 55, "with the byte where the faulty number begins or is missing"
-unfoldable pub number_if : Number → ℕ → Verdict
-number_if (Good v s) p = Accepted
-number_if (Bad n) p = Refused n p
+unfoldable pub number_if : Result Number ℕ → ℕ → Verdict
+number_if (Ok n) p = Accepted
+number_if (Err e) p = Refused e p
 
 -- the checks of the number at p, l the bytes from there on
 unfoldable pub number_judged : ℕ → List ℕ → Verdict
 number_judged p l = number_if (number l) p
+
+-- what is shown of it
+abbrev pub number_shown : List ℕ → Number
+number_shown l = record { value = value_of l; size = size_of l }
 
 -- a row's three numbers
 unfoldable pub row_of : List ℕ → Row

@@ -1,10 +1,8 @@
 -- What the writer is given, what it writes, when it refuses, and what it leaves.
-use Rattle.std.specs.Prelude.{◌≡◌, List, [], ◌∷◌, ◌++◌, ℕ, ◌%◌, leb, eqb, length, drop}
-use Rattle.wire.specs.Verdict.{◌then◌, check}
-use Rattle.wire.specs.declared.Verdict.{Verdict}
-use Rattle.wire.specs.declared.Verdict.TheVariants.{Accepted, Refused}
+use Rattle.std.specs.Prelude.{Result, ◌≡◌, List, [], ◌∷◌, ◌++◌, ℕ, ◌%◌, leb, eqb, length, drop}
+use Rattle.wire.specs.Verdict.{◌then◌, check, under, Verdict, Accepted, Refused}
+use Rattle.wire.specs.declared.Refusal.{Refusal}
 use Rattle.settings_layout.specs.declared.Row.{Row}
-use Rattle.settings_layout.specs.declared.SettingsWritten.{SettingsWritten}
 use Rattle.settings_layout.specs.Rules.{row}
 use Rattle.settings_layout.specs.File.{judged}
 use Rattle.settings_layout.specs.Laid.{laid}
@@ -32,13 +30,9 @@ writer_judged g room =
     then judged (written g)
     then check (leb (length (written g)) room) 28 0
 
--- the answer: the verdict, and the length of the result
-unfoldable pub answer_to : Verdict → ℕ → SettingsWritten
-answer_to Accepted n = record { verdict = Accepted; len = n }
-answer_to (Refused a p) n = record { verdict = Refused a p; len = 0 }
-
-abbrev pub answer : List ℕ → ℕ → SettingsWritten
-answer g room = answer_to (writer_judged g room) (length (written g))
+-- the answer: the length of the result
+abbrev pub answer : List ℕ → ℕ → Result ℕ Refusal
+answer g room = under (writer_judged g room) (length (written g))
 
 -- the output at exit, which held o: "a refusal leaves the output; bytes past the result keep their contents"
 unfoldable pub output_if : Verdict → List ℕ → List ℕ → List ℕ
@@ -49,6 +43,6 @@ abbrev pub output : List ℕ → List ℕ → List ℕ
 output g o = output_if (writer_judged g (length o)) (written g) o
 
 -- the writer was called with g and an output that held o: it answers r and leaves l there
-pub record Wrote (g o : List ℕ) (r : SettingsWritten) (l : List ℕ) : Type 0 where
+pub record Wrote (g o : List ℕ) (r : Result ℕ Refusal) (l : List ℕ) : Type 0 where
   pub answered : r ≡ answer g (length o)
   pub left : l ≡ output g o

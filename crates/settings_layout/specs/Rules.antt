@@ -1,15 +1,14 @@
 -- Rows, which of them are right, and the value of a key at a version.
+use Rattle.std.specs.Prelude.{None, Option, Some}
 use Rattle.std.specs.Prelude.{Bool, ◌&&◌, List, [], ◌∷◌, ℕ, leb, eqb}
 use Rattle.wire.specs.Choice.{choose}
 use Rattle.settings_layout.specs.declared.Row.{Row}
-use Rattle.settings_layout.specs.declared.Setting.{Setting}
-use Rattle.settings_layout.specs.declared.Setting.TheVariants.{Set, Unset}
 
 -- "rows of version, key and value"
 abbrev pub row : ℕ → ℕ → ℕ → Row
 row v k x = record { version = v; key = k; value = x }
 
--- what stands beside a refusal
+-- what stands for a row that is not there
 abbrev pub no_row : Row
 no_row = row 0 0 0
 
@@ -38,9 +37,9 @@ tells k v r = eqb r.key k && leb r.version v
 
 -- "The value at version v is that of the last row with the key and a version of at most v, else unset": each such row takes the place of what
 -- the rows before it gave, s
-unfoldable pub latest : ℕ → ℕ → Setting → List Row → Setting
+unfoldable pub latest : ℕ → ℕ → Option ℕ → List Row → Option ℕ
 latest k v s [] = s
-latest k v s (r ∷ l) = latest k v (choose (tells k v r) (Set r.value) s) l
+latest k v s (r ∷ l) = latest k v (choose (tells k v r) (Some r.value) s) l
 
-unfoldable pub setting_at : ℕ → ℕ → List Row → Setting
-setting_at k v l = latest k v Unset l
+unfoldable pub setting_at : ℕ → ℕ → List Row → Option ℕ
+setting_at k v l = latest k v None l

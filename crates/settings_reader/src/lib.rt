@@ -4,331 +4,215 @@
 
 ghost use Rattle.std.specs.Prelude.{◌≡◌, ◌≤◌, ◌<◌, eqb, length, drop};
 ghost use Rattle.wire.specs.Choice.{choose};
-ghost use Rattle.settings_layout.specs.File.{rows_judged, rows_from};
-ghost use Rattle.settings_layout.specs.Groups.{grouped, further, number, size_if, value_of, size_of};
-ghost use Rattle.settings_layout.specs.Rules.{no_row, key_known, in_range, tells, latest};
+ghost use Rattle.wire.specs.Verdict.{under};
+ghost use Rattle.settings_layout.specs.File.{number_judged, number_shown, rows_judged, rows_from};
+ghost use Rattle.settings_layout.specs.Groups.{grouped, further, number};
+ghost use Rattle.settings_layout.specs.Rules.{key_known, in_range, tells};
 ghost use Rattle.settings_layout.specs.Shown.{settings_of, row_answer_of, setting_answer_of, row_alone_of};
-ghost use Rattle.settings_reader.specs.Walk.{pair_if, pair_judged, row_from, walked_if, walked_of};
+ghost use Rattle.settings_reader.specs.Walk.{walked_by, walked_of};
 
-use settings_layout::{Number, Row, RowAlone, RowAnswer, Setting, SettingAnswer, Settings};
-use wire::Verdict;
+use settings_layout::{Number, Row, RowAlone, Settings};
+use wire::Refusal;
 
-const NO_ROW: Row = Row {
-    version: 0,
-    key: 0,
-    value: 0,
-};
-
-// The key and the value of a row, and where the row ends; or the refusal.
-#[derive(Clone, Copy)]
-enum Pair {
-    Held(u32, u32, usize),
-    Wrong(u8, usize),
-}
-
-fn wide(x: u8) -> u32
-    ensures { (result ≡ x) × (result < 256) }
+// A group that is not the last, before the others; or the refusal's number.
+fn group(b: u8, rest: Number) -> Result<Number, u8>
+    requires { (128 ≤ b) × (rest.size ≤ 4) }
+    ensures { result ≡ grouped b (Ok rest) }
 {
-    x as u32
-}
-
-// A group that is not the last, before the others.
-fn group(b: u32, n: Number) -> Number
-    requires { (128 ≤ b) × (b < 256) × (size_if n ≤ 4) }
-    ensures { result ≡ grouped b n }
-{
-    match n {
-        Number::Bad(x) => Number::Bad(x),
-        Number::Good(v, s) => {
-            let x = (b - 128) as u64 + 128 * (v as u64);
-            if x < 4294967296 {
-                return Number::Good(x as u32, s + 1);
-            }
-            Number::Bad(54)
-        }
+    let value = u64::from(b - 128) + 128 * u64::from(rest.value);
+    match u32::try_from(value) {
+        Ok(value) => Ok(Number {
+            value,
+            size: rest.size + 1,
+        }),
+        Err(_) => Err(54),
     }
 }
 
 // The groups after the first, k at most.
-fn further_at(d: &[u8], at: usize, k: usize) -> Number
+fn further_at(d: &[u8], at: usize, k: usize) -> Result<Number, u8>
     requires { k ≤ 4 }
     ensures { result ≡ further k (drop at d.now) }
 {
     if k == 0 {
-        return Number::Bad(54);
+        return Err(54);
     }
     if d.len() <= at {
-        return Number::Bad(55);
+        return Err(55);
     }
-    let b = wide(d[at]);
+    let b = d[at];
     if b < 128 {
         if b == 0 {
-            return Number::Bad(53);
+            return Err(53);
         }
-        return Number::Good(b, 1);
+        return Ok(Number {
+            value: u32::from(b),
+            size: 1,
+        });
     }
-    group(b, further_at(d, at + 1, k - 1))
+    group(b, further_at(d, at + 1, k - 1)?)
 }
 
-// The number at a place.
-fn number_at(d: &[u8], at: usize) -> Number
+// The number at a place, or the refusal's number.
+fn groups_at(d: &[u8], at: usize) -> Result<Number, u8>
     ensures { result ≡ number (drop at d.now) }
 {
     if d.len() <= at {
-        return Number::Bad(55);
+        return Err(55);
     }
-    let b = wide(d[at]);
+    let b = d[at];
     if b < 128 {
-        return Number::Good(b, 1);
+        return Ok(Number {
+            value: u32::from(b),
+            size: 1,
+        });
     }
-    group(b, further_at(d, at + 1, 4))
+    group(b, further_at(d, at + 1, 4)?)
+}
+
+// The number at a place.
+fn number_at(d: &[u8], at: usize) -> Result<Number, Refusal>
+    ensures { result ≡ under (number_judged at (drop at d.now)) (number_shown (drop at d.now)) }
+{
+    match groups_at(d, at) {
+        Ok(n) => Ok(n),
+        Err(number) => wire::refused(number, at),
+    }
 }
 
 // Whether a key is one of those that are known.
 pub fn key_known(key: u32) -> bool
     ensures { result ≡ key_known key }
 {
-    if key < 1 {
-        return false;
-    }
-    key <= 3
+    1 <= key && key <= 3
 }
 
 // Whether a value is in its key's range.
 pub fn in_range(key: u32, value: u32) -> bool
     ensures { result ≡ in_range key value }
 {
-    if key == 1 {
-        return value <= 3;
-    }
-    if key == 3 {
-        return value <= 1;
-    }
-    true
-}
-
-// A row's key and value.
-fn pair_at(d: &[u8], at: usize) -> Pair
-    ensures { result ≡ pair_if (pair_judged at (drop at d.now)) at (drop at d.now) }
-{
-    match number_at(d, at) {
-        Number::Bad(n) => Pair::Wrong(n, at),
-        Number::Good(key, s) => {
-            if !key_known(key) {
-                return Pair::Wrong(57, at);
-            }
-            let from = at + s;
-            match number_at(d, from) {
-                Number::Bad(n) => Pair::Wrong(n, from),
-                Number::Good(value, t) => {
-                    if !in_range(key, value) {
-                        return Pair::Wrong(58, from);
-                    }
-                    Pair::Held(key, value, from + t)
-                }
-            }
-        }
-    }
-}
-
-// A row by itself that is refused.
-fn row_refused(number: u8, place: usize) -> RowAlone
-    ensures { result ≡ record { verdict = Verdict.Refused number place; row = no_row; end = 0 } }
-{
-    RowAlone {
-        verdict: Verdict::Refused(number, place),
-        row: NO_ROW,
-        end: 0,
+    match key {
+        1 => value <= 3,
+        3 => value <= 1,
+        _ => true,
     }
 }
 
 // The row that begins at a byte, by itself, after a row of version last, 0 where it is the first. Whatever the bytes and numbers, it answers.
-pub fn row_alone(d: &[u8], at: usize, last: u32) -> RowAlone
+pub fn row_alone(d: &[u8], at: usize, last: u32) -> Result<RowAlone, Refusal>
     ensures { result ≡ row_alone_of d.now at last }
 {
-    match number_at(d, at) {
-        Number::Bad(n) => row_refused(n, at),
-        Number::Good(version, s) => {
-            if version < last {
-                return row_refused(59, at);
-            }
-            match pair_at(d, at + s) {
-                Pair::Wrong(n, p) => row_refused(n, p),
-                Pair::Held(key, value, end) => RowAlone {
-                    verdict: Verdict::Accepted,
-                    row: Row {
-                        version,
-                        key,
-                        value,
-                    },
-                    end,
-                },
-            }
-        }
+    let version = number_at(d, at)?;
+    if version.value < last {
+        return wire::refused(59, at);
     }
+    let at_key = at + version.size;
+    let key = number_at(d, at_key)?;
+    if !key_known(key.value) {
+        return wire::refused(57, at_key);
+    }
+    let at_value = at_key + key.size;
+    let value = number_at(d, at_value)?;
+    if !in_range(key.value, value.value) {
+        return wire::refused(58, at_value);
+    }
+    Ok(RowAlone {
+        row: Row {
+            version: version.value,
+            key: key.value,
+            value: value.value,
+        },
+        end: at_value + value.size,
+    })
 }
 
 // What a row leaves of a setting: its own value where it has the key and a version of at most the given one.
-fn taken(setting: Setting, row: Row, key: u32, version: u32) -> Setting
-    ensures { result ≡ choose (tells key version row) (Setting.Set row.value) setting }
+fn taken(setting: Option<u32>, row: Row, key: u32, version: u32) -> Option<u32>
+    ensures { result ≡ choose (tells key version row) (Some row.value) setting }
 {
-    if row.key != key {
-        return setting;
+    if row.key == key && row.version <= version {
+        Some(row.value)
+    } else {
+        setting
     }
-    if version < row.version {
-        return setting;
-    }
-    Setting::Set(row.value)
 }
 
 // What row j leaves of the row that is asked for, row i.
-fn wanted(before: Row, row: Row, j: usize, i: usize) -> Row
-    ensures { result ≡ choose (eqb j i) row before }
+fn wanted(before: Option<Row>, row: Row, j: usize, i: usize) -> Option<Row>
+    ensures { result ≡ choose (eqb j i) (Some row) before }
 {
-    if j == i {
-        return row;
-    }
-    before
+    if j == i { Some(row) } else { before }
 }
 
 // The answer to every question at once.
 #[derive(Clone, Copy)]
 struct Walked {
-    verdict: Verdict,
-    setting: Setting,
-    row: Row,
+    settings: Settings,
+    setting: Option<u32>,
+    row: Option<Row>,
 }
 
-fn walk_refused(number: u8, place: usize) -> Walked
-    ensures { result ≡ record { verdict = Verdict.Refused number place; setting = Setting.Unset; row = no_row } }
+// The rows of a file, judged, the value of a key at a version, and row i.
+fn walk(d: &[u8], settings: Settings, key: u32, version: u32, i: usize) -> Result<Walked, Refusal>
+    requires { settings.first ≤ length d.now }
+    ensures { let l = drop settings.first d.now in result ≡ under (rows_judged settings.rows 0 settings.first l) (walked_by settings key version i (rows_from settings.rows l)) }
 {
-    Walked {
-        verdict: Verdict::Refused(number, place),
-        setting: Setting::Unset,
-        row: NO_ROW,
-    }
-}
-
-// The rows from a byte on, judged, the value of a key at a version, and row i.
-fn walk(d: &[u8], count: usize, from: usize, key: u32, version: u32, i: usize) -> Walked
-    requires { from ≤ length d.now }
-    ensures { result ≡ walked_if (rows_judged count 0 from (drop from d.now)) (latest key version Setting.Unset (rows_from count (drop from d.now))) (row_from i 0 no_row (rows_from count (drop from d.now))) }
-{
-    let mut done: usize = 0;
-    let mut last: u32 = 0;
-    let mut at = from;
-    let mut setting = Setting::Unset;
-    let mut kept = NO_ROW;
-    while done < count {
-        let got = row_alone(d, at, last);
-        let verdict = got.verdict;
-        if let Verdict::Refused(n, p) = verdict {
-            return walk_refused(n, p);
-        }
-        let row = got.row;
-        setting = taken(setting, row, key, version);
-        kept = wanted(kept, row, done, i);
-        last = row.version;
-        at = got.end;
-        done += 1;
+    let mut last = 0;
+    let mut at = settings.first;
+    let mut setting = None;
+    let mut row = None;
+    for j in 0..settings.rows {
+        let alone = row_alone(d, at, last)?;
+        setting = taken(setting, alone.row, key, version);
+        row = wanted(row, alone.row, j, i);
+        last = alone.row.version;
+        at = alone.end;
     }
     if at < d.len() {
-        return walk_refused(60, at);
+        return wire::refused(60, at);
     }
-    Walked {
-        verdict: Verdict::Accepted,
+    Ok(Walked {
+        settings,
         setting,
-        row: kept,
-    }
+        row,
+    })
 }
 
 // The whole file.
-fn walk_file(d: &[u8], key: u32, version: u32, i: usize) -> Walked
+fn walk_file(d: &[u8], key: u32, version: u32, i: usize) -> Result<Walked, Refusal>
     ensures { result ≡ walked_of d.now key version i }
 {
-    match number_at(d, 0) {
-        Number::Bad(n) => walk_refused(n, 0),
-        Number::Good(count, s) => {
-            if 512 < count {
-                return walk_refused(56, 0);
-            }
-            walk(d, count as usize, s, key, version, i)
-        }
+    let count = number_at(d, 0)?;
+    if 512 < count.value {
+        return wire::refused(56, 0);
     }
+    let settings = Settings {
+        rows: count.value as usize,
+        first: count.size,
+    };
+    walk(d, settings, key, version, i)
 }
 
-// The row count, 0 where there is none.
-fn count_of(d: &[u8]) -> usize
-    ensures { result ≡ value_of d.now }
-{
-    match number_at(d, 0) {
-        Number::Good(count, _) => count as usize,
-        Number::Bad(_) => 0,
-    }
-}
-
-// Where the row count ends.
-fn first_of(d: &[u8]) -> usize
-    ensures { result ≡ size_of d.now }
-{
-    match number_at(d, 0) {
-        Number::Good(_, s) => s,
-        Number::Bad(_) => 0,
-    }
-}
-
-// The verdict on a settings file, its number of rows, and where the first begins.
-pub fn read(d: &[u8]) -> Settings
+// The number of rows of a settings file, and where the first begins.
+pub fn read(d: &[u8]) -> Result<Settings, Refusal>
     ensures { result ≡ settings_of d.now }
 {
-    let verdict = walk_file(d, 0, 0, 0).verdict;
-    match verdict {
-        Verdict::Refused(_, _) => Settings {
-            verdict,
-            rows: 0,
-            first: 0,
-        },
-        Verdict::Accepted => Settings {
-            verdict,
-            rows: count_of(d),
-            first: first_of(d),
-        },
-    }
+    Ok(walk_file(d, 0, 0, 0)?.settings)
 }
 
 // The value of a key at a version: that of the last row with the key and a version of at most the given one.
-pub fn value(d: &[u8], key: u32, version: u32) -> SettingAnswer
+pub fn value(d: &[u8], key: u32, version: u32) -> Result<Option<u32>, Refusal>
     ensures { result ≡ setting_answer_of d.now key version }
 {
-    let w = walk_file(d, key, version, 0);
-    let verdict = w.verdict;
-    let setting = w.setting;
-    SettingAnswer { verdict, setting }
-}
-
-fn no_row(number: u8, place: usize) -> RowAnswer
-    ensures { result ≡ record { verdict = Verdict.Refused number place; row = no_row } }
-{
-    RowAnswer {
-        verdict: Verdict::Refused(number, place),
-        row: NO_ROW,
-    }
+    Ok(walk_file(d, key, version, 0)?.setting)
 }
 
 // Row i, 26 where there is none.
-pub fn row(d: &[u8], i: usize) -> RowAnswer
+pub fn row(d: &[u8], i: usize) -> Result<Row, Refusal>
     ensures { result ≡ row_answer_of d.now i }
 {
-    let w = walk_file(d, 0, 0, i);
-    let verdict = w.verdict;
-    match verdict {
-        Verdict::Refused(number, place) => no_row(number, place),
-        Verdict::Accepted => {
-            if count_of(d) <= i {
-                return no_row(26, 0);
-            }
-            let row = w.row;
-            RowAnswer { verdict, row }
-        }
+    match walk_file(d, 0, 0, i)?.row {
+        Some(row) => Ok(row),
+        None => wire::refused(26, 0),
     }
 }

@@ -1,46 +1,41 @@
 -- What a call of the writer leaves in the output.
 -- Assumes nothing.
 use Prim.Native.Nat.{ℕ, ◌+◌, ◌/◌, ◌≤◌}
-use mathlib.Core.Path.{◌≡◌, refl, sym, ◌∙◌, ap}
+use mathlib.Core.Path.{◌≡◌, sym, ◌∙◌, ap}
 use mathlib.Core.List.{List, ◌++◌}
 use native.Mathlib.Omega.{arith}
 use lib.ListN.{length, length-append}
 use lib.Seq.{sets, length-sets}
 use borrow.Author.Tests.{leb-true, eqb-true}
-use Rattle.wire.specs.declared.Verdict.{Verdict}
-use Rattle.wire.specs.declared.Verdict.TheVariants.{Accepted, Refused}
-use Rattle.wire.proofs.Verdicts.{then_accepted, check_then, check_accepted}
-use Rattle.settings_layout.specs.declared.SettingsWritten.{SettingsWritten}
+use Rattle.std.specs.Prelude.{Result, Ok, Err}
+use Rattle.wire.specs.Verdict.{under, Accepted}
+use Rattle.wire.specs.declared.Refusal.{Refusal}
+use Rattle.wire.proofs.Verdicts.{then_accepted, check_then, check_accepted, refused_by, accepted_by, value_by}
 use Rattle.settings_layout.specs.Groups.{groups, in_groups}
 use Rattle.settings_layout.specs.Laid.{laid}
-use Rattle.settings_layout.specs.Given.{rows_given, written, writer_judged, answer_to, output_if}
+use Rattle.settings_layout.specs.Given.{rows_given, written, writer_judged, output_if}
 use Rattle.settings_layout.specs.Checked.{numbers_laid}
 use Rattle.settings_layout.proofs.GivenNumbers.{rows_flat, rows_count}
 use Rattle.settings_layout.proofs.GivenRows.{laid_told}
 use Rattle.settings_writer.proofs.Puts.{all_put}
 
-verdict_is : (v : Verdict) (n : ℕ) → (answer_to v n).verdict ≡ v
-unfolding answer_to
-verdict_is Accepted n = refl
-verdict_is (Refused a p) n = refl
-
-module _ (g o : List ℕ) {r : SettingsWritten} (e : r ≡ answer_to (writer_judged g (length o)) (length (written g))) where
-  verdict_told : r.verdict ≡ writer_judged g (length o)
-  verdict_told = ap (λ (w : SettingsWritten). w.verdict) e ∙ verdict_is (writer_judged g (length o)) (length (written g))
-
+module _ (g o : List ℕ) {r : Result ℕ Refusal} (e : r ≡ under (writer_judged g (length o)) (length (written g))) where
   -- a refusal leaves the output
-  pub kept : {n p : ℕ} → r.verdict ≡ Refused n p → o ≡ output_if (writer_judged g (length o)) (written g) o
+  pub kept : {f : Refusal} → r ≡ Err f → o ≡ output_if (writer_judged g (length o)) (written g) o
   unfolding output_if
-  kept q = rw (sym verdict_told ∙ q)
+  kept q = rw (refused_by _ _ e q)
 
   pub record Passed : Type 0 where
     pub few : length g / 3 ≤ 512
     pub form : written g ≡ groups 4 (length g / 3) ++ numbers_laid g
     pub fits : length (groups 4 (length g / 3)) + length (numbers_laid g) ≤ length o
 
-  module _ (q : r.verdict ≡ Accepted) where
+  module _ {n : ℕ} (q : r ≡ Ok n) where
     pub accepted : writer_judged g (length o) ≡ Accepted
-    accepted = sym verdict_told ∙ q
+    accepted = accepted_by _ _ e q
+
+    pub len_is : length (written g) ≡ n
+    len_is = sym (value_by _ _ e q)
 
     pub passed : Passed
     unfolding writer_judged written laid in_groups

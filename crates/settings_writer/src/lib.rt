@@ -4,23 +4,15 @@
 
 ghost use Rattle.std.specs.Prelude.{◌≡◌, ◌+◌, ◌%◌, ◌≤◌, ◌<◌, leb, length};
 ghost use Rattle.std.proofs.lemmas.List.Edits.{sets};
-ghost use Rattle.wire.specs.Verdict.{◌then◌, check};
+ghost use Rattle.wire.specs.Verdict.{◌then◌, check, under};
 ghost use Rattle.settings_layout.specs.Groups.{groups, in_groups, capacity};
-ghost use Rattle.settings_layout.specs.Rules.{row};
 ghost use Rattle.settings_layout.specs.Laid.{rows_laid};
-ghost use Rattle.settings_layout.specs.Given.{rows_given, written, writer_judged, answer_to, Wrote};
+ghost use Rattle.settings_layout.specs.Given.{written, writer_judged, Wrote};
 ghost use Rattle.settings_layout.specs.Checked.{numbers_laid, width, row_width, row_given, all_given};
-ghost use Rattle.settings_writer.specs.Steps.{step_if};
+ghost use Rattle.settings_writer.specs.Rows.{rows_in};
 
-use settings_layout::SettingsWritten;
-use wire::Verdict;
-
-// Where the next row begins, or the refusal.
-#[derive(Clone, Copy)]
-enum Step {
-    Next(usize),
-    Wrong(u8, usize),
-}
+use settings_layout::Row;
+use wire::Refusal;
 
 // How many bytes a number takes.
 fn width_of(n: u32) -> usize
@@ -41,81 +33,62 @@ fn width_of(n: u32) -> usize
     5
 }
 
-// The checks of a row that begins at a place of the result, after a row of version last.
-fn row_given(version: u32, key: u32, value: u32, last: u32, at: usize) -> Step
+// The checks of a row that begins at a place of the result, after a row of version last; where the next row begins.
+fn row_given(row: Row, last: u32, at: usize) -> Result<usize, Refusal>
     requires { at ≤ 100000 }
-    ensures { result ≡ step_if (row_given last at (row version key value)) (at + row_width (row version key value)) }
+    ensures { result ≡ under (row_given last at row) (at + row_width row) }
 {
-    if version < last {
-        return Step::Wrong(59, at);
+    if row.version < last {
+        return wire::refused(59, at);
     }
-    let at_key = at + width_of(version);
-    if !settings_reader::key_known(key) {
-        return Step::Wrong(57, at_key);
+    let at_key = at + width_of(row.version);
+    if !settings_reader::key_known(row.key) {
+        return wire::refused(57, at_key);
     }
-    let at_value = at_key + width_of(key);
-    if !settings_reader::in_range(key, value) {
-        return Step::Wrong(58, at_value);
+    let at_value = at_key + width_of(row.key);
+    if !settings_reader::in_range(row.key, row.value) {
+        return wire::refused(58, at_value);
     }
-    Step::Next(at_value + width_of(value))
-}
-
-fn refused(number: u8, place: usize) -> SettingsWritten
-    ensures { result ≡ record { verdict = Verdict.Refused number place; len = 0 } }
-{
-    SettingsWritten {
-        verdict: Verdict::Refused(number, place),
-        len: 0,
-    }
+    Ok(at_value + width_of(row.value))
 }
 
 // The checks of all rows, the first of which begins at a place of the result; then 28.
-fn judge_rows(rows: &[u32], from: usize, room: usize) -> SettingsWritten
-    requires { (length rows.now % 3 ≡ 0) × (length rows.now ≤ 1536) × (from ≤ 5) }
-    ensures { result ≡ answer_to (all_given 0 from (rows_given rows.now) then check (leb (from + length (rows_laid (rows_given rows.now))) room) 28 0) (from + length (rows_laid (rows_given rows.now))) }
+fn judge_rows(rows: &[[u32; 3]], from: usize, room: usize) -> Result<usize, Refusal>
+    requires { (length rows.now ≤ 512) × (from ≤ 5) }
+    ensures { let l = rows_in rows.now in let end = from + length (rows_laid l) in result ≡ under (all_given 0 from l then check (leb end room) 28 0) end }
 {
-    let n = rows.len();
     let mut at = from;
-    let mut last: u32 = 0;
-    let mut i = 0;
-    while i < n {
-        let version = rows[i];
-        match row_given(version, rows[i + 1], rows[i + 2], last, at) {
-            Step::Wrong(number, place) => {
-                return refused(number, place);
-            }
-            Step::Next(next) => {
-                at = next;
-                last = version;
-            }
-        }
-        i += 3;
+    let mut last = 0;
+    for &[version, key, value] in rows {
+        let row = Row {
+            version,
+            key,
+            value,
+        };
+        at = row_given(row, last, at)?;
+        last = version;
     }
     if room < at {
-        return refused(28, 0);
+        return wire::refused(28, 0);
     }
-    SettingsWritten {
-        verdict: Verdict::Accepted,
-        len: at,
-    }
+    Ok(at)
 }
 
-// Every check, in order: 27, what reading the result would give, 28.
-fn judge(rows: &[u32], room: usize) -> SettingsWritten
-    ensures { result ≡ answer_to (writer_judged rows.now room) (length (written rows.now)) }
+// Every check, in order: 27, what reading the result would give, 28. The answer is the result's length.
+fn judge(numbers: &[u32], room: usize) -> Result<usize, Refusal>
+    ensures { result ≡ under (writer_judged numbers.now room) (length (written numbers.now)) }
 {
-    let n = rows.len();
-    if n % 3 != 0 {
-        return refused(27, 0);
+    let (rows, rest) = numbers.as_chunks::<3>();
+    if !rest.is_empty() {
+        return wire::refused(27, 0);
     }
-    let count = n / 3;
-    if 4294967295 < count {
-        return refused(54, 0);
-    }
+    let Ok(count) = u32::try_from(rows.len()) else {
+        return wire::refused(54, 0);
+    };
     if 512 < count {
-        return refused(56, 0);
+        return wire::refused(56, 0);
     }
-    judge_rows(rows, width_of(count as u32), room)
+    judge_rows(rows, width_of(count), room)
 }
 
 // Puts a number at a place, in k + 1 groups at most, and returns where it ends.
@@ -136,30 +109,21 @@ fn put_numbers(out: &mut [u8], from: usize, numbers: &[u32])
     requires { from + length (numbers_laid numbers.now) ≤ length out.old }
     ensures { out.new ≡ sets out.old from (numbers_laid numbers.now) }
 {
-    let n = numbers.len();
     let mut at = from;
-    let mut i = 0;
-    while i < n {
-        at = put_groups(out, at, numbers[i], 4);
-        i += 1;
+    for n in numbers {
+        at = put_groups(out, at, *n, 4);
     }
 }
 
-// Writes rows, three numbers each, version, key and value, as a settings file into the output. Refusals, in order: 27 where they aren't whole
+// Writes rows, three numbers each, version, key and value, as a settings file into the output, and answers its length. Refusals, in order: 27 where they aren't whole
 // rows, what reading the result would give, with that place, 28. A refusal leaves every byte of the output, and bytes past the result keep
 // their contents.
-pub fn write(rows: &[u32], out: &mut [u8]) -> SettingsWritten
+pub fn write(rows: &[u32], out: &mut [u8]) -> Result<usize, Refusal>
     ensures { Wrote rows.now out.old result out.new }
 {
-    let answer = judge(rows, out.len());
-    let verdict = answer.verdict;
-    match verdict {
-        Verdict::Refused(_, _) => answer,
-        Verdict::Accepted => {
-            let count = (rows.len() / 3) as u32;
-            let at = put_groups(out, 0, count, 4);
-            put_numbers(out, at, rows);
-            answer
-        }
-    }
+    let len = judge(rows, out.len())?;
+    let count = (rows.len() / 3) as u32;
+    let at = put_groups(out, 0, count, 4);
+    put_numbers(out, at, rows);
+    Ok(len)
 }

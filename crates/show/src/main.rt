@@ -1,74 +1,79 @@
 // show EDITION FILE: prints all that an opening of a container of at most 65,536 bytes and its queries show, one item a line.
 #![tactic(auto)]
 
-ghost use Rattle.std.specs.Prelude.{◌≡◌, ◌+◌, ◌≤◌, length};
-ghost use Rattle.wire.specs.declared.Verdict.TheVariants.{Accepted};
+ghost use Rattle.std.specs.Prelude.{◌≡◌};
 ghost use Rattle.part_table_layout.specs.Pairs.{counted_of};
 
-use arguments::Contents;
+use arguments::FileError;
 use dxil_report_layout::Stages;
-use part_table_layout::{Found, Part, Table};
+use part_table_layout::Table;
 use places_layout::SectionPlaces;
-use printing::{number, text};
-use psv0_layout::{Field, Points, RuntimeInfo, View};
-use root_signature_layout::{Item, RootHeader};
-use signature_layout::Name;
+use printing::{hex, number, pair, refusal, text, value};
+use psv0_layout::{RuntimeInfo, Span, View};
+use root_signature_layout::Item;
+use signature_layout::NameSpan;
 use signature_report_layout::SignaturePart;
-use wire::Verdict;
-use words::Named;
+use wire::Refusal;
+use words::WordError;
+
+// A container that opened: its bytes, its part table, by which the other parts' data are found, and the places that the opening handed back, by
+// which all that is shown of PSV0 is read.
+#[derive(Clone, Copy)]
+struct Opened<'a> {
+    bytes: &'a [u8],
+    table: Table,
+    places: SectionPlaces,
+    ghost counted: { table ≡ counted_of bytes.now },
+}
+
+impl<'a> Opened<'a> {
+    // The data of the first part with a name.
+    fn data(&self, name: &[u8; 4]) -> Result<&'a [u8], Refusal> {
+        let part = part_table::part_in(self.table, name, 0)?;
+        let start = part.offset + 8;
+        Ok(&self.bytes[start..start + part.size])
+    }
+
+    // What is shown of PSV0 as bytes: none where it is unset.
+    fn view(&self, view: View) -> &'a [u8] {
+        places::view_bytes(self.bytes, self.places, view)
+    }
+
+    fn span(&self, view: View) -> Result<Span, Refusal> {
+        places::view_span(self.bytes, self.places, view)
+    }
+
+    fn runtime(&self) -> Result<RuntimeInfo, Refusal> {
+        places::runtime_info(self.bytes, self.places)
+    }
+}
 
 // ---- bytes and values
 
-fn digit(n: u8) -> u8 {
-    let d = n % 16;
-    if d < 10 {
-        return b'0' + d;
-    }
-    b'a' + (d - 10)
-}
-
-// A byte as two lower-case hex digits.
-fn hex(b: u8) {
-    let two = [digit(b / 16), digit(b)];
-    text(&two);
-}
-
 fn hex_bytes(s: &[u8]) {
-    let mut i = 0;
-    while i < s.len() {
-        hex(s[i]);
-        i += 1;
+    for b in s {
+        hex(u32::from(*b), 2);
     }
 }
 
-// A byte of a string: as it is where it prints, else in hex.
-fn string_byte(b: u8) {
-    if b < 32 || 126 < b || b == b'"' || b == b'\\' {
-        text(b"\\x");
-        hex(b);
-        return;
+// A string's bytes with its code points: each as it is where it prints, else in hex.
+fn string_of(s: &[u8], points: usize) {
+    text(b"\"");
+    for b in s {
+        match *b {
+            0..=31 | b'"' | b'\\' | 127..=255 => {
+                text(b"\\x");
+                hex(u32::from(*b), 2);
+            }
+            shown => text(&[shown]),
+        }
     }
-    let one = [b];
-    text(&one);
-}
-
-fn string_bytes(s: &[u8]) {
-    let mut i = 0;
-    while i < s.len() {
-        string_byte(s[i]);
-        i += 1;
-    }
-}
-
-fn value(f: Field) {
-    match f {
-        Field::Set(n) => number(n as usize),
-        Field::Unset => text(b"unset"),
-    }
+    text(b"\" points ");
+    number(points);
 }
 
 // A name and a value on a line of their own.
-fn item(name: &[u8], f: Field) {
+fn item(name: &[u8], f: Option<u32>) {
     text(name);
     text(b" ");
     value(f);
@@ -76,472 +81,257 @@ fn item(name: &[u8], f: Field) {
 }
 
 // A name and a value further on in a line.
-fn pair(name: &[u8], f: Field) {
-    text(b" ");
+fn field(name: &[u8], f: Option<u32>) {
     text(name);
-    text(b" ");
     value(f);
 }
 
-// Whether a view is set.
-fn shown(b: &[u8], p: SectionPlaces, view: View) -> bool {
-    let s = places::view_span(b, p, view);
-    let v = s.verdict;
-    match v {
-        Verdict::Accepted => true,
-        Verdict::Refused(_, _) => false,
-    }
-}
-
-// A string that is set, with its code points.
-fn string_of(s: &[u8], points: usize) {
-    text(b"\"");
-    string_bytes(s);
-    text(b"\" points ");
-    number(points);
-}
-
-fn string(b: &[u8], p: SectionPlaces, view: View) {
-    let s = places::view_span(b, p, view);
-    let points = s.points;
-    match points {
-        Points::Unset => text(b"unset"),
-        Points::Count(n) => string_of(places::view_bytes(b, p, view), n),
+fn string(c: &Opened, view: View) {
+    match c.span(view) {
+        Ok(
+            Span {
+                points: Some(n),
+                ..
+            },
+        ) => string_of(c.view(view), n),
+        _ => text(b"unset"),
     }
 }
 
 // ---- the part table
 
-fn part(i: usize, x: u32, offset: u32, size: u32, occurrence: u32, gap: u32) {
-    text(b"part ");
-    number(i);
-    text(b" ");
-    printing::part(x, offset, size);
-    text(b" occurrence ");
-    number(occurrence as usize);
-    text(b" gap ");
-    number(gap as usize);
-    text(b"\n");
-}
-
-fn parts(t: Table) {
-    let n = t.count;
+fn parts(t: &Table) {
     text(b"parts ");
-    number(n);
-    text(b"\npairs ");
-    number(t.pairs as usize);
+    number(t.count);
+    pair(b"\npairs ", t.pairs);
     text(b"\n");
-    let mut i = 0;
-    while i < 96 {
-        if i < n {
-            part(
-                i,
-                t.names[i],
-                t.offsets[i],
-                t.sizes[i],
-                t.occurrences[i],
-                t.gaps[i],
-            );
-        }
-        i += 1;
-    }
-}
-
-// The first part with a name, in the table t of the bytes b.
-fn part_of(b: &[u8], t: Table, name: &[u8; 4]) -> Part
-    requires { t ≡ counted_of b.now }
-    ensures { result.verdict ≡ Accepted → result.offset + 8 + result.size ≤ length b.now }
-{
-    part_table::part_in(t, name, 0)
-}
-
-// Its data; none beside a refusal.
-fn data<'a>(b: &'a [u8], part: Part) -> &'a [u8]
-    requires { part.verdict ≡ Accepted → part.offset + 8 + part.size ≤ length b.now }
-{
-    let offset = part.offset;
-    let size = part.size;
-    let v = part.verdict;
-    match v {
-        Verdict::Refused(_, _) => &b[0..0],
-        Verdict::Accepted => {
-            let start = offset + 8;
-            let end = start + size;
-            &b[start..end]
-        }
+    for i in 0..t.count.min(96) {
+        text(b"part ");
+        number(i);
+        text(b" ");
+        printing::part(t.names[i], t.offsets[i], t.sizes[i]);
+        pair(b" occurrence ", t.occurrences[i]);
+        pair(b" gap ", t.gaps[i]);
+        text(b"\n");
     }
 }
 
 // ---- the runtime record
 
-fn stage(r: RuntimeInfo) {
-    let minimum = r.minimum_wave_lanes;
-    item(b"minimum_wave_lanes", minimum);
-    let maximum = r.maximum_wave_lanes;
-    item(b"maximum_wave_lanes", maximum);
-    let kind = r.stage;
-    item(b"stage", kind);
-    let uses = r.uses_view_id;
-    item(b"uses_view_id", uses);
-    let vertices = r.max_vertex_count;
-    item(b"max_vertex_count", vertices);
-    let patch = r.patch_vectors;
-    item(b"patch_vectors", patch);
-    let topology = r.mesh_topology;
-    item(b"mesh_topology", topology);
-}
-
-fn signatures(r: RuntimeInfo) {
-    let input = r.input_elements;
-    item(b"input_elements", input);
-    let output = r.output_elements;
-    item(b"output_elements", output);
-    let patch = r.patch_elements;
-    item(b"patch_elements", patch);
-    let u = r.input_vectors;
-    item(b"input_vectors", u);
-    let v0 = r.output_vectors_0;
-    item(b"output_vectors_0", v0);
-    let v1 = r.output_vectors_1;
-    item(b"output_vectors_1", v1);
-    let v2 = r.output_vectors_2;
-    item(b"output_vectors_2", v2);
-    let v3 = r.output_vectors_3;
-    item(b"output_vectors_3", v3);
-}
-
-fn entry(r: RuntimeInfo) {
-    let x = r.threads_x;
-    item(b"threads_x", x);
-    let y = r.threads_y;
-    item(b"threads_y", y);
-    let z = r.threads_z;
-    item(b"threads_z", z);
-    let name = r.entry_name_offset;
-    item(b"entry_name_offset", name);
-}
-
-fn runtime(b: &[u8], p: SectionPlaces) {
+fn runtime(c: &Opened) -> Result<(), Refusal> {
     text(b"stage_info ");
-    hex_bytes(places::view_bytes(b, p, View::StageUnion));
+    hex_bytes(c.view(View::StageUnion));
     text(b"\n");
-    let a = places::runtime_info(b, p);
-    let r = a.info;
-    stage(r);
-    signatures(r);
-    entry(r);
+    let r = c.runtime()?;
+    item(b"minimum_wave_lanes", r.minimum_wave_lanes);
+    item(b"maximum_wave_lanes", r.maximum_wave_lanes);
+    item(b"stage", r.stage);
+    item(b"uses_view_id", r.uses_view_id);
+    item(b"max_vertex_count", r.max_vertex_count);
+    item(b"patch_vectors", r.patch_vectors);
+    item(b"mesh_topology", r.mesh_topology);
+    item(b"input_elements", r.input_elements);
+    item(b"output_elements", r.output_elements);
+    item(b"patch_elements", r.patch_elements);
+    item(b"input_vectors", r.input_vectors);
+    item(b"output_vectors_0", r.output_vectors_0);
+    item(b"output_vectors_1", r.output_vectors_1);
+    item(b"output_vectors_2", r.output_vectors_2);
+    item(b"output_vectors_3", r.output_vectors_3);
+    item(b"threads_x", r.threads_x);
+    item(b"threads_y", r.threads_y);
+    item(b"threads_z", r.threads_z);
+    item(b"entry_name_offset", r.entry_name_offset);
     text(b"entry_name ");
-    string(b, p, View::EntryName);
+    string(c, View::EntryName);
     text(b"\n");
+    Ok(())
 }
 
 // ---- resources, elements and masks
 
-// How many records a list has: none where its length is unset.
-fn count(f: Field) -> usize {
-    match f {
-        Field::Set(n) => n as usize,
-        Field::Unset => 0,
-    }
-}
-
-fn resource(b: &[u8], p: SectionPlaces, i: usize) {
-    let a = places::resource(b, p, i);
-    let r = a.resource;
+fn resource(c: &Opened, i: usize) -> Result<(), Refusal> {
+    let r = places::resource(c.bytes, c.places, i)?;
     text(b"resource ");
     number(i);
-    let kind = r.binding_type;
-    pair(b"type", kind);
-    let space = r.space;
-    pair(b"space", space);
-    let lower = r.lower_bound;
-    pair(b"lower", lower);
-    let upper = r.upper_bound;
-    pair(b"upper", upper);
-    let resource_kind = r.kind;
-    pair(b"kind", resource_kind);
-    let flags = r.flags;
-    pair(b"flags", flags);
+    field(b" type ", r.binding_type);
+    field(b" space ", r.space);
+    field(b" lower ", r.lower_bound);
+    field(b" upper ", r.upper_bound);
+    field(b" kind ", r.kind);
+    field(b" flags ", r.flags);
     text(b"\n");
-}
-
-fn resources(b: &[u8], p: SectionPlaces, f: Field) {
-    item(b"resources", f);
-    let n = count(f);
-    let mut i = 0;
-    while i < n {
-        resource(b, p, i);
-        i += 1;
-    }
+    Ok(())
 }
 
 // An index array: its numbers in brackets.
 fn array(x: &[u8]) {
     text(b"[");
-    let n = x.len() / 4;
-    let mut i = 0;
-    while i < n {
+    for (i, four) in x.chunks_exact(4).enumerate() {
         if 0 < i {
             text(b" ");
         }
-        number(wire::u32_at(x, i * 4) as usize);
-        i += 1;
+        number(wire::u32_at(four, 0) as usize);
     }
     text(b"]");
 }
 
-fn element(b: &[u8], p: SectionPlaces, i: usize) {
+fn element(c: &Opened, i: usize) -> Result<(), Refusal> {
+    let e = places::element(c.bytes, c.places, i)?;
     text(b"element ");
     number(i);
     text(b" name ");
-    string(b, p, View::ElementString(i));
+    string(c, View::ElementString(i));
     text(b" indices ");
-    array(places::view_bytes(b, p, View::ElementArray(i)));
-    let a = places::element(b, p, i);
-    let e = a.element;
-    let name = e.name_offset;
-    pair(b"name_offset", name);
-    let index = e.index_reference;
-    pair(b"index_reference", index);
-    let rows = e.rows;
-    pair(b"rows", rows);
-    let start_row = e.start_row;
-    pair(b"start_row", start_row);
-    let columns = e.columns;
-    pair(b"columns", columns);
-    let start_column = e.start_column;
-    pair(b"start_column", start_column);
-    let allocated = e.allocated;
-    pair(b"allocated", allocated);
-    let semantic = e.semantic_kind;
-    pair(b"semantic", semantic);
-    let component = e.component_type;
-    pair(b"component", component);
-    let interpolation = e.interpolation;
-    pair(b"interpolation", interpolation);
-    let dynamic = e.dynamic_mask;
-    pair(b"dynamic_mask", dynamic);
-    let stream = e.stream;
-    pair(b"stream", stream);
-    let reserved = e.reserved;
-    pair(b"reserved", reserved);
+    array(c.view(View::ElementArray(i)));
+    field(b" name_offset ", e.name_offset);
+    field(b" index_reference ", e.index_reference);
+    field(b" rows ", e.rows);
+    field(b" start_row ", e.start_row);
+    field(b" columns ", e.columns);
+    field(b" start_column ", e.start_column);
+    field(b" allocated ", e.allocated);
+    field(b" semantic ", e.semantic_kind);
+    field(b" component ", e.component_type);
+    field(b" interpolation ", e.interpolation);
+    field(b" dynamic_mask ", e.dynamic_mask);
+    field(b" stream ", e.stream);
+    field(b" reserved ", e.reserved);
     text(b"\n");
+    Ok(())
 }
 
-fn elements(b: &[u8], p: SectionPlaces, f: Field) {
-    item(b"elements", f);
-    let n = count(f);
-    let mut i = 0;
-    while i < n {
-        element(b, p, i);
-        i += 1;
+// How many records a list has, and each of them: none where its length is unset.
+fn lists(c: &Opened) -> Result<(), Refusal> {
+    let l = places::lengths(c.bytes, c.places);
+    item(b"resources", l.resources);
+    for i in 0..l.resources.unwrap_or(0) {
+        resource(c, i as usize)?;
     }
-}
-
-fn mask_words(w: &[u8]) {
-    if w.len() == 0 {
-        text(b"empty");
-    } else {
-        hex_bytes(w);
+    item(b"strings", l.strings);
+    item(b"indices", l.indices);
+    item(b"elements", l.elements);
+    for i in 0..l.elements.unwrap_or(0) {
+        element(c, i as usize)?;
     }
+    Ok(())
 }
 
-fn mask(b: &[u8], p: SectionPlaces, m: usize) {
+fn mask(c: &Opened, m: usize) {
     text(b"mask ");
     number(m);
     text(b" ");
-    if shown(b, p, View::Mask(m)) {
-        mask_words(places::view_bytes(b, p, View::Mask(m)));
-    } else {
-        text(b"unset");
+    let view = View::Mask(m);
+    match c.span(view) {
+        Ok(Span { len: 0, .. }) => text(b"empty"),
+        Ok(_) => hex_bytes(c.view(view)),
+        Err(_) => text(b"unset"),
     }
     text(b"\n");
-}
-
-fn masks(b: &[u8], p: SectionPlaces) {
-    let mut m = 0;
-    while m < 11 {
-        mask(b, p, m);
-        m += 1;
-    }
 }
 
 // ---- the report on the DXIL part
 
 fn version(name: &[u8], major: u32, minor: u32) {
     text(name);
-    text(b" version ");
-    number(major as usize);
-    text(b" ");
-    number(minor as usize);
+    pair(b" version ", major);
+    pair(b" ", minor);
 }
 
-// A number further on in a line.
-fn count_of(name: &[u8], n: u32) {
-    text(name);
-    number(n as usize);
-}
-
-fn stages(s: Stages) {
-    match s {
+// The data d of the part, with the stage that PSV0 shows.
+fn program_in(d: &[u8], psv0_stage: Option<u32>) -> Result<(), Refusal> {
+    let h = dxil::read(d)?.header;
+    version(b"program", h.version_major, h.version_minor);
+    pair(b" stage ", h.stage);
+    pair(b" words ", h.words);
+    version(b"\nbitcode", h.bitcode_major, h.bitcode_minor);
+    pair(b" offset ", h.bitcode_offset);
+    pair(b" size ", h.bitcode_size);
+    text(b"\n");
+    match dxil_report::compared(h.stage, psv0_stage) {
         Stages::Equal => text(b"stages equal\n"),
         Stages::Different => text(b"stages different\n"),
         Stages::Unset => text(b"stages unset\n"),
     }
+    Ok(())
 }
 
-// The data d of the part, with the stage that PSV0 shows.
-fn program_in(d: &[u8], psv0_stage: Field) {
-    let r = dxil::read(d);
-    let v = r.verdict;
-    match v {
-        Verdict::Refused(n, place) => {
-            text(b"program ");
-            printing::refusal(n, place);
-        }
-        Verdict::Accepted => {
-            let h = r.header;
-            version(b"program", h.version_major, h.version_minor);
-            count_of(b" stage ", h.stage);
-            count_of(b" words ", h.words);
-            version(b"\nbitcode", h.bitcode_major, h.bitcode_minor);
-            count_of(b" offset ", h.bitcode_offset);
-            count_of(b" size ", h.bitcode_size);
-            text(b"\n");
-            stages(dxil_report::compared(h.stage, psv0_stage));
-        }
-    }
-}
-
-fn program(b: &[u8], t: Table, p: SectionPlaces)
-    requires { t ≡ counted_of b.now }
-{
-    let part = part_of(b, t, b"DXIL");
-    let d = data(b, part);
-    let v = part.verdict;
-    match v {
-        Verdict::Refused(n, place) => {
-            text(b"program ");
-            printing::refusal(n, place);
-        }
-        Verdict::Accepted => {
-            let a = places::runtime_info(b, p);
-            let r = a.info;
-            let psv0_stage = r.stage;
-            program_in(d, psv0_stage);
-        }
-    }
+fn program(c: &Opened) -> Result<(), Refusal> {
+    program_in(c.data(b"DXIL")?, c.runtime()?.stage)
 }
 
 // ---- the reports on the signature parts
 
-// How each line of a part starts.
-fn line_of(part: SignaturePart) {
+fn name_of(part: SignaturePart) -> &'static [u8; 4] {
     match part {
-        SignaturePart::Input => text(b"signature ISG1 "),
-        SignaturePart::Output => text(b"signature OSG1 "),
-        SignaturePart::Patch => text(b"signature PSG1 "),
+        SignaturePart::Input => b"ISG1",
+        SignaturePart::Output => b"OSG1",
+        SignaturePart::Patch => b"PSG1",
     }
 }
 
+// How each line of a part starts.
+fn line_of(part: SignaturePart) {
+    text(b"signature ");
+    text(name_of(part));
+    text(b" ");
+}
+
 // A name in the part's data.
-fn name_in(d: &[u8], name: Name) {
+fn name_in(d: &[u8], name: Option<NameSpan>) {
     match name {
-        Name::Unset => text(b"unset"),
-        Name::At(_, _, points) => string_of(signature::name_bytes(d, name), points),
+        Some(x) => string_of(signature::name_bytes(d, name), x.points),
+        None => text(b"unset"),
     }
 }
 
 // Element i of data that were judged: by itself, so that it costs no other element.
-fn signature_element(d: &[u8], part: SignaturePart, i: usize) {
-    let a = signature::element_alone(d, i);
+fn signature_element(d: &[u8], part: SignaturePart, i: usize) -> Result<(), Refusal> {
+    let a = signature::element_alone(d, i)?;
     let e = a.element;
-    let name = a.name;
     line_of(part);
     number(i);
     text(b" name ");
-    name_in(d, name);
-    count_of(b" name_offset ", e.name_offset);
-    count_of(b" index ", e.index);
-    count_of(b" stream ", e.stream);
-    count_of(b" system_value ", e.system_value);
-    count_of(b" component ", e.component_type);
-    count_of(b" register ", e.register_number);
-    count_of(b" mask ", e.mask);
-    count_of(b" exclusive_mask ", e.exclusive_mask);
-    count_of(b" precision ", e.precision);
+    name_in(d, a.name);
+    pair(b" name_offset ", e.name_offset);
+    pair(b" index ", e.index);
+    pair(b" stream ", e.stream);
+    pair(b" system_value ", e.system_value);
+    pair(b" component ", e.component_type);
+    pair(b" register ", e.register_number);
+    pair(b" mask ", e.mask);
+    pair(b" exclusive_mask ", e.exclusive_mask);
+    pair(b" precision ", e.precision);
     text(b"\n");
+    Ok(())
 }
 
-fn signature_elements(d: &[u8], part: SignaturePart, n: usize) {
-    let mut i = 0;
-    while i < n {
-        signature_element(d, part, i);
-        i += 1;
-    }
-}
-
-fn difference(d: &[u8], b: &[u8], p: SectionPlaces, part: SignaturePart) {
-    let r = signature_report::difference_by(d, b, p, part);
-    let first = r.first;
+// The first element at which the part and PSV0 differ.
+fn difference(d: &[u8], c: &Opened, part: SignaturePart) -> Result<(), Refusal> {
+    let first = signature_report::difference_by(d, c.bytes, c.places, part)?;
     line_of(part);
     text(b"first_difference ");
     match first {
-        Found::At(i) => number(i),
-        Found::Nothing => text(b"none"),
+        Some(i) => number(i),
+        None => text(b"none"),
     }
     text(b"\n");
+    Ok(())
 }
 
-// The data d of a part, beside the names in PSV0.
-fn signature_in(d: &[u8], b: &[u8], p: SectionPlaces, part: SignaturePart) {
-    let s = signature::read(d);
-    let v = s.verdict;
-    match v {
-        Verdict::Refused(m, place) => printing::refusal(m, place),
-        Verdict::Accepted => {
-            text(b"elements ");
-            number(s.count);
-            text(b"\n");
-            signature_elements(d, part, s.count);
-            difference(d, b, p, part);
-        }
+fn signature_part(c: &Opened, part: SignaturePart) -> Result<(), Refusal> {
+    let d = c.data(name_of(part))?;
+    let n = signature::read(d)?;
+    text(b"elements ");
+    number(n);
+    text(b"\n");
+    for i in 0..n {
+        signature_element(d, part, i)?;
     }
-}
-
-fn signature_of(b: &[u8], t: Table, part: SignaturePart) -> Part
-    requires { t ≡ counted_of b.now }
-    ensures { result.verdict ≡ Accepted → result.offset + 8 + result.size ≤ length b.now }
-{
-    match part {
-        SignaturePart::Input => part_of(b, t, b"ISG1"),
-        SignaturePart::Output => part_of(b, t, b"OSG1"),
-        SignaturePart::Patch => part_of(b, t, b"PSG1"),
-    }
-}
-
-fn signature_part(b: &[u8], t: Table, p: SectionPlaces, part: SignaturePart)
-    requires { t ≡ counted_of b.now }
-{
-    let found = signature_of(b, t, part);
-    let d = data(b, found);
-    let v = found.verdict;
-    line_of(part);
-    match v {
-        Verdict::Refused(m, place) => printing::refusal(m, place),
-        Verdict::Accepted => signature_in(d, b, p, part),
-    }
+    difference(d, c, part)
 }
 
 // ---- the report on the root signature
-
-// A number's bits, as eight lower-case hex digits.
-fn hex_word(n: u32) {
-    hex((n / 16777216) as u8);
-    hex((n / 65536 % 256) as u8);
-    hex((n / 256 % 256) as u8);
-    hex((n % 256) as u8);
-}
 
 // How each line of an item starts.
 fn item_line(i: usize) {
@@ -549,35 +339,31 @@ fn item_line(i: usize) {
     number(i);
 }
 
+// A name, and a number's bits as eight hex digits.
+fn bits(name: &[u8], n: u32) {
+    text(name);
+    hex(n, 8);
+}
+
 // Range j of item i, of data that were judged.
-fn root_range(d: &[u8], i: usize, j: usize) {
-    let a = root_signature::range_alone(d, i, j);
-    let r = a.range;
+fn root_range(d: &[u8], i: usize, j: usize) -> Result<(), Refusal> {
+    let r = root_signature::range_alone(d, i, j)?;
     item_line(i);
     text(b" range ");
     number(j);
-    count_of(b" type ", r.range_type);
-    count_of(b" descriptors ", r.descriptors);
-    count_of(b" register ", r.base_register);
-    count_of(b" space ", r.space);
-    let flags = r.flags;
-    pair(b"flags", flags);
-    count_of(b" offset ", r.offset);
+    pair(b" type ", r.range_type);
+    pair(b" descriptors ", r.descriptors);
+    pair(b" register ", r.base_register);
+    pair(b" space ", r.space);
+    field(b" flags ", r.flags);
+    pair(b" offset ", r.offset);
     text(b"\n");
-}
-
-fn root_ranges(d: &[u8], i: usize, n: usize) {
-    let mut j = 0;
-    while j < n {
-        root_range(d, i, j);
-        j += 1;
-    }
+    Ok(())
 }
 
 // Item i of data that were judged: by itself, so that it costs no other item.
-fn root_item(d: &[u8], i: usize) {
-    let a = root_signature::item_alone(d, i);
-    let item = a.item;
+fn root_item(d: &[u8], i: usize) -> Result<(), Refusal> {
+    let item = root_signature::item_alone(d, i)?;
     item_line(i);
     match item {
         Item::Constants {
@@ -586,10 +372,10 @@ fn root_item(d: &[u8], i: usize) {
             space,
             count,
         } => {
-            count_of(b" constants visibility ", visibility);
-            count_of(b" register ", register_number);
-            count_of(b" space ", space);
-            count_of(b" count ", count);
+            pair(b" constants visibility ", visibility);
+            pair(b" register ", register_number);
+            pair(b" space ", space);
+            pair(b" count ", count);
             text(b"\n");
         }
         Item::Descriptor {
@@ -599,11 +385,11 @@ fn root_item(d: &[u8], i: usize) {
             space,
             flags,
         } => {
-            count_of(b" descriptor type ", parameter_type);
-            count_of(b" visibility ", visibility);
-            count_of(b" register ", register_number);
-            count_of(b" space ", space);
-            pair(b"flags", flags);
+            pair(b" descriptor type ", parameter_type);
+            pair(b" visibility ", visibility);
+            pair(b" register ", register_number);
+            pair(b" space ", space);
+            field(b" flags ", flags);
             text(b"\n");
         }
         Item::Table {
@@ -611,10 +397,12 @@ fn root_item(d: &[u8], i: usize) {
             ranges,
             offset: _,
         } => {
-            count_of(b" table visibility ", visibility);
-            count_of(b" ranges ", ranges);
+            pair(b" table visibility ", visibility);
+            pair(b" ranges ", ranges);
             text(b"\n");
-            root_ranges(d, i, ranges as usize);
+            for j in 0..ranges {
+                root_range(d, i, j as usize)?;
+            }
         }
         Item::Sampler {
             filter,
@@ -631,123 +419,90 @@ fn root_item(d: &[u8], i: usize) {
             space,
             visibility,
         } => {
-            count_of(b" sampler filter ", filter);
-            count_of(b" address_u ", address_u);
-            count_of(b" address_v ", address_v);
-            count_of(b" address_w ", address_w);
-            text(b" lod_bias ");
-            hex_word(lod_bias.bits);
-            count_of(b" anisotropy ", anisotropy);
-            count_of(b" comparison ", comparison);
-            count_of(b" border ", border);
-            text(b" least_lod ");
-            hex_word(least_lod.bits);
-            text(b" greatest_lod ");
-            hex_word(greatest_lod.bits);
-            count_of(b" register ", register_number);
-            count_of(b" space ", space);
-            count_of(b" visibility ", visibility);
+            pair(b" sampler filter ", filter);
+            pair(b" address_u ", address_u);
+            pair(b" address_v ", address_v);
+            pair(b" address_w ", address_w);
+            bits(b" lod_bias ", lod_bias.bits);
+            pair(b" anisotropy ", anisotropy);
+            pair(b" comparison ", comparison);
+            pair(b" border ", border);
+            bits(b" least_lod ", least_lod.bits);
+            bits(b" greatest_lod ", greatest_lod.bits);
+            pair(b" register ", register_number);
+            pair(b" space ", space);
+            pair(b" visibility ", visibility);
             text(b"\n");
         }
-        Item::Unset => text(b" unset\n"),
     }
+    Ok(())
 }
 
-fn root_items(d: &[u8], n: usize) {
-    let mut i = 0;
-    while i < n {
-        root_item(d, i);
-        i += 1;
-    }
-}
-
-fn root_header(h: RootHeader) {
-    count_of(b"version ", h.version);
-    count_of(b" parameters ", h.parameters);
-    count_of(b" samplers ", h.samplers);
-    count_of(b" flags ", h.flags);
+fn root(c: &Opened) -> Result<(), Refusal> {
+    let d = c.data(b"RTS0")?;
+    let h = root_signature::read(d)?;
+    pair(b"version ", h.version);
+    pair(b" parameters ", h.parameters);
+    pair(b" samplers ", h.samplers);
+    pair(b" flags ", h.flags);
     text(b"\n");
-}
-
-// The data d of the part.
-fn root_in(d: &[u8]) {
-    let r = root_signature::read(d);
-    let h = r.header;
-    let v = r.verdict;
-    match v {
-        Verdict::Refused(m, place) => printing::refusal(m, place),
-        Verdict::Accepted => {
-            root_header(h);
-            root_items(d, h.parameters as usize + h.samplers as usize);
-        }
+    for i in 0..h.parameters as usize + h.samplers as usize {
+        root_item(d, i)?;
     }
-}
-
-fn root(b: &[u8], t: Table)
-    requires { t ≡ counted_of b.now }
-{
-    let part = part_of(b, t, b"RTS0");
-    let d = data(b, part);
-    let v = part.verdict;
-    text(b"root_signature ");
-    match v {
-        Verdict::Refused(m, place) => printing::refusal(m, place),
-        Verdict::Accepted => root_in(d),
-    }
+    Ok(())
 }
 
 // ---- all of it
 
-// A container that opened: its part table, by which the other parts' data are found, and the places p that the opening handed back, by which all that
-// is shown of PSV0 is read.
-fn dump(b: &[u8], p: SectionPlaces) {
-    let table = part_table::read_with(b, true);
-    parts(table);
-    runtime(b, p);
-    let a = places::lengths(b, p);
-    let l = a.lengths;
-    let r = l.resources;
-    resources(b, p, r);
-    let t = l.strings;
-    item(b"strings", t);
-    let n = l.indices;
-    item(b"indices", n);
-    let e = l.elements;
-    elements(b, p, e);
-    masks(b, p);
-    program(b, table, p);
-    signature_part(b, table, p, SignaturePart::Input);
-    signature_part(b, table, p, SignaturePart::Output);
-    signature_part(b, table, p, SignaturePart::Patch);
-    root(b, table);
+fn or_refusal(r: Result<(), Refusal>) {
+    if let Err(refused) = r {
+        refusal(refused);
+    }
 }
 
-fn show(b: &[u8], edition: usize) {
-    let o = container::open_places(b, edition);
-    let v = o.verdict;
-    let places = o.places;
-    match v {
-        Verdict::Refused(n, place) => printing::refusal(n, place),
-        Verdict::Accepted => {
-            text(b"edition ");
-            number(o.file_edition);
-            text(b" read ");
-            number(places.edition as usize);
-            text(b"\n");
-            dump(b, places);
-        }
+fn dump(c: &Opened) -> Result<(), Refusal> {
+    parts(&c.table);
+    runtime(c)?;
+    lists(c)?;
+    for m in 0..11 {
+        mask(c, m);
     }
+    if let Err(r) = program(c) {
+        text(b"program ");
+        refusal(r);
+    }
+    for part in [
+        SignaturePart::Input,
+        SignaturePart::Output,
+        SignaturePart::Patch,
+    ] {
+        line_of(part);
+        or_refusal(signature_part(c, part));
+    }
+    text(b"root_signature ");
+    or_refusal(root(c));
+    Ok(())
+}
+
+fn show(bytes: &[u8], edition: usize) -> Result<(), Refusal> {
+    let o = container::open_places(bytes, edition)?;
+    text(b"edition ");
+    number(o.file_edition);
+    pair(b" read ", o.places.edition);
+    text(b"\n");
+    dump(&Opened {
+        bytes,
+        table: part_table::read_with(bytes, true),
+        places: o.places,
+    })
 }
 
 fn show_file(rt: &HostRuntime, edition: usize) {
     let mut buffer = io::large_buffer();
-    let r = arguments::file(rt, 2, &mut buffer);
-    let contents = r.contents;
-    let len = r.len;
-    match contents {
-        Contents::Whole => show(&buffer[..len], edition),
-        Contents::TooLong => text(b"too long\n"),
-        Contents::CannotOpen => text(b"cannot open\n"),
+    match arguments::file(rt, 2, &mut buffer) {
+        Ok(b) => or_refusal(show(b, edition)),
+        Err(FileError::TooLong) => text(b"too long\n"),
+        Err(FileError::CannotOpen) => text(b"cannot open\n"),
     }
 }
 
@@ -761,11 +516,10 @@ fn main(rt: HostRuntime) {
         usage();
         return;
     }
-    let edition = arguments::number(&rt, 1);
-    match edition {
-        Named::Number(e) => show_file(&rt, e as usize),
+    match arguments::number(&rt, 1) {
+        Ok(edition) => show_file(&rt, edition as usize),
         // No edition is so great: 25, as any above 3.
-        Named::Greater => show_file(&rt, 4),
-        Named::Nothing => usage(),
+        Err(WordError::Greater) => show_file(&rt, 4),
+        Err(WordError::NoNumber) => usage(),
     }
 }

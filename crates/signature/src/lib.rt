@@ -1,46 +1,45 @@
 // The reader of the data of a part ISG1, OSG1 or PSG1 alone: refusals 43 to 45 and 52, the elements and their names as parts of the caller's slice.
 #![tactic(auto)]
 
-ghost use Rattle.std.specs.Prelude.{◌≡◌, true, ◌&&◌, ◌+◌, ◌≤◌, leb, ltb, length};
-ghost use Rattle.wire.specs.Verdict.{each};
-ghost use Rattle.wire.specs.declared.Verdict.TheVariants.{Accepted};
+ghost use Rattle.std.specs.Prelude.{◌≡◌, true, ◌+◌, ◌≤◌, length};
+ghost use Rattle.wire.specs.Verdict.{under};
 ghost use Rattle.psv0_layout.specs.Position.{UpToLastZero};
 ghost use Rattle.signature_layout.specs.Named.{NamesFrom, NamesDecided};
-ghost use Rattle.signature_layout.specs.Signature.{count_of, start_of, fields_of, name_offset_of, name_good, name_judged, signature_judged, signature_of, name_of, refused_element, answer_if, element_of, alone_of, refused_name, view_of, bytes_of};
+ghost use Rattle.signature_layout.specs.Signature.{count_of, start_of, element_at, fields_of, name_offset_of, name_good, name_judged, signature_of, name_of, element_shown, element_of, alone_of, view_of, bytes_of};
 
-use psv0_layout::{Points, Span};
-use signature_layout::{Name, Signature, SignatureAnswer, SignatureElement};
-use wire::Verdict;
+use psv0_layout::Span;
+use signature_layout::{NameSpan, SignatureAnswer, SignatureElement};
+use utf8::References;
+use wire::Refusal;
 
-// ---- the names of all elements
-// The lesser of two offsets, where a second of 0 is no name.
-fn lesser(least: usize, o: usize) -> usize
-    ensures { (result ≤ least) × ((o ≡ 0 → ⊥) → result ≤ o) }
+// ---- the bytes of an element, which lie inside
+fn element_at<'a>(d: &'a [u8], i: usize) -> &'a [u8]
+    requires { start_of d.now i + 32 ≤ length d.now }
+    ensures { result.now ≡ element_at d.now i }
 {
-    if o == 0 {
-        return least;
-    }
-    if o < least {
-        return o;
-    }
-    least
+    let at = wire::u32_at(d, 4) as usize + 32 * i;
+    &d[at..at + 32]
 }
 
+fn name_offset(d: &[u8], i: usize) -> usize
+    requires { start_of d.now i + 32 ≤ length d.now }
+    ensures { result ≡ name_offset_of d.now i }
+{
+    wire::u32_at(element_at(d, i), 4) as usize
+}
+
+// ---- the names of all elements
 // A place from which on all names lie: the least of their offsets, or the end of the data.
 fn least_name(d: &[u8]) -> usize
     requires { start_of d.now (count_of d.now) ≤ length d.now }
     ensures { NamesFrom d.now result (count_of d.now) }
 {
-    let count = wire::u32_at(d, 0) as usize;
-    let mut at = wire::u32_at(d, 4) as usize;
     let mut least = d.len();
-    let mut i = 0;
-    while i < count {
-        let next = at + 32;
-        let o = wire::u32_at(&d[at..next], 4) as usize;
-        least = lesser(least, o);
-        i += 1;
-        at = next;
+    for i in 0..wire::u32_at(d, 0) as usize {
+        let o = name_offset(d, i);
+        if o != 0 {
+            least = least.min(o);
+        }
     }
     least
 }
@@ -53,83 +52,48 @@ fn ill_name(d: &[u8], end: usize) -> usize
 {
     let count = wire::u32_at(d, 0) as usize;
     let least = least_name(d);
-    if utf8::plain_from(d, least) {
+    if count == 0 || utf8::plain_from(d, least) {
         return count;
     }
-    if count == 0 {
-        return 0;
-    }
     let first = wire::u32_at(d, 4) as usize;
-    let from = first + 4;
-    let to = first + 32 * count;
-    let len = d.len();
-    utf8::first_ill(&d[0..len], least, true, &d[from..to], 32, count, 0, count)
+    utf8::first_ill(
+        d,
+        least,
+        &References {
+            records: &d[first + 4..first + 32 * count],
+            stride: 32,
+            count,
+            last: 0,
+            len: count,
+            free: true,
+        },
+    )
 }
 
-// Whether a name offset is that of a string that does not end, where the last zero byte ends at a place.
-fn is_cut(end: usize, o: usize) -> bool
-    ensures { result ≡ (ltb 0 o && leb end o) }
-{
-    if o == 0 {
-        return false;
-    }
-    end <= o
-}
-
-// 45 and 52, element by element: the last zero byte decides which names end.
-fn judge_names(d: &[u8]) -> Verdict
-    requires { start_of d.now (count_of d.now) ≤ length d.now }
-    ensures { result ≡ each (name_judged d.now) (count_of d.now) }
-{
-    let end = strings::end_of(d);
-    let ill = ill_name(d, end);
-    let count = wire::u32_at(d, 0) as usize;
-    let mut at = wire::u32_at(d, 4) as usize;
-    let mut i = 0;
-    while i < count {
-        let next = at + 32;
-        let o = wire::u32_at(&d[at..next], 4) as usize;
-        if is_cut(end, o) {
-            return Verdict::Refused(45, i);
-        }
-        if i == ill {
-            return Verdict::Refused(52, i);
-        }
-        i += 1;
-        at = next;
-    }
-    Verdict::Accepted
-}
-
-// Refusals 43 to 45 and 52.
-fn judge(d: &[u8]) -> Verdict
-    ensures { result ≡ signature_judged d.now }
+// The element count, or 43 to 45 and 52: the last zero byte decides which names end.
+pub fn read(d: &[u8]) -> Result<usize, Refusal>
+    ensures { result ≡ signature_of d.now }
 {
     let len = d.len();
     if len < 8 {
-        return Verdict::Refused(43, 0);
+        return wire::refused(43, 0);
     }
-    if len < wire::u32_at(d, 4) as usize + 32 * wire::u32_at(d, 0) as usize {
-        return Verdict::Refused(44, 0);
+    let count = wire::u32_at(d, 0) as usize;
+    if len < wire::u32_at(d, 4) as usize + 32 * count {
+        return wire::refused(44, 0);
     }
-    judge_names(d)
-}
-
-// The verdict and the element count.
-pub fn read(d: &[u8]) -> Signature
-    ensures { result ≡ signature_of d.now }
-{
-    let v = judge(d);
-    match v {
-        Verdict::Refused(n, place) => Signature {
-            verdict: Verdict::Refused(n, place),
-            count: 0,
-        },
-        Verdict::Accepted => Signature {
-            verdict: Verdict::Accepted,
-            count: wire::u32_at(d, 0) as usize,
-        },
+    let end = strings::end_of(d);
+    let ill = ill_name(d, end);
+    for i in 0..count {
+        let o = name_offset(d, i);
+        if o != 0 && end <= o {
+            return wire::refused(45, i);
+        }
+        if i == ill {
+            return wire::refused(52, i);
+        }
     }
+    Ok(count)
 }
 
 // ---- one element
@@ -151,172 +115,109 @@ fn fields(e: &[u8]) -> SignatureElement
 }
 
 // The name at an offset that was judged, with its code points.
-fn name_at(d: &[u8], o: usize) -> Name
+fn name_at(d: &[u8], o: usize) -> Option<NameSpan>
     requires { name_good d.now o ≡ true }
     ensures { result ≡ name_of d.now o }
 {
     if o == 0 {
-        return Name::Unset;
+        return None;
     }
-    let n = strings::len_at(d, o);
-    let end = o + n;
-    Name::At(o, n, utf8::code_points(&d[o..end]))
+    let len = strings::len_at(d, o);
+    Some(NameSpan {
+        start: o,
+        len,
+        points: utf8::code_points(&d[o..o + len]),
+    })
 }
 
 // Element i, whose 32 bytes lie inside and whose name was judged.
 fn answer_at(d: &[u8], i: usize) -> SignatureAnswer
     requires { (start_of d.now i + 32 ≤ length d.now) × (name_good d.now (name_offset_of d.now i) ≡ true) }
-    ensures { result ≡ answer_if Accepted d.now i }
+    ensures { result ≡ element_shown d.now i }
 {
-    let at = wire::u32_at(d, 4) as usize + 32 * i;
-    let end = at + 32;
-    let element = fields(&d[at..end]);
-    let name = name_at(d, element.name_offset as usize);
+    let element = fields(element_at(d, i));
     SignatureAnswer {
-        verdict: Verdict::Accepted,
-        element: element,
-        name: name,
-    }
-}
-
-// What a refusal shows.
-pub fn refused(n: u8, place: usize) -> SignatureAnswer
-    ensures { result ≡ refused_element n place }
-{
-    SignatureAnswer {
-        verdict: Verdict::Refused(n, place),
-        element: SignatureElement {
-            stream: 0,
-            name_offset: 0,
-            index: 0,
-            system_value: 0,
-            component_type: 0,
-            register_number: 0,
-            mask: 0,
-            exclusive_mask: 0,
-            precision: 0,
-        },
-        name: Name::Unset,
+        element,
+        name: name_at(d, element.name_offset as usize),
     }
 }
 
 // Element i: 43 to 45 and 52, then 26.
-pub fn element(d: &[u8], i: usize) -> SignatureAnswer
+pub fn element(d: &[u8], i: usize) -> Result<SignatureAnswer, Refusal>
     ensures { result ≡ element_of d.now i }
 {
-    let v = judge(d);
-    match v {
-        Verdict::Refused(n, place) => refused(n, place),
-        Verdict::Accepted => {
-            if wire::u32_at(d, 0) as usize <= i {
-                return refused(26, 0);
-            }
-            answer_at(d, i)
-        }
+    if read(d)? <= i {
+        return wire::refused(26, 0);
     }
+    Ok(answer_at(d, i))
 }
 
 // 45 and 52 of the name of element i, whose 32 bytes lie inside.
-fn judge_name(d: &[u8], i: usize) -> Verdict
+fn judge_name(d: &[u8], i: usize) -> Result<(), Refusal>
     requires { start_of d.now i + 32 ≤ length d.now }
-    ensures { result ≡ name_judged d.now i }
+    ensures { result ≡ under (name_judged d.now i) tt }
 {
-    let at = wire::u32_at(d, 4) as usize + 32 * i;
-    let next = at + 32;
-    let o = wire::u32_at(&d[at..next], 4) as usize;
-    if o == 0 {
-        return Verdict::Accepted;
-    }
-    if utf8::is_good(d, o) {
-        return Verdict::Accepted;
+    let o = name_offset(d, i);
+    if o == 0 || utf8::is_good(d, o) {
+        return Ok(());
     }
     let len = d.len();
-    if len <= o {
-        return Verdict::Refused(45, i);
+    if len <= o || len - o <= strings::len_at(d, o) {
+        return wire::refused(45, i);
     }
-    if len - o <= strings::len_at(d, o) {
-        return Verdict::Refused(45, i);
-    }
-    Verdict::Refused(52, i)
+    wire::refused(52, i)
 }
 
 // Element i by itself, whatever the others are: 43, 26, 44 of its own bytes, 45 and 52 of its own name.
-pub fn element_alone(d: &[u8], i: usize) -> SignatureAnswer
+pub fn element_alone(d: &[u8], i: usize) -> Result<SignatureAnswer, Refusal>
     ensures { result ≡ alone_of d.now i }
 {
     let len = d.len();
     if len < 8 {
-        return refused(43, 0);
+        return wire::refused(43, 0);
     }
     if wire::u32_at(d, 0) as usize <= i {
-        return refused(26, 0);
+        return wire::refused(26, 0);
     }
     if len < wire::u32_at(d, 4) as usize + 32 * i + 32 {
-        return refused(44, 0);
+        return wire::refused(44, 0);
     }
-    let v = judge_name(d, i);
-    match v {
-        Verdict::Refused(n, place) => refused(n, place),
-        Verdict::Accepted => answer_at(d, i),
-    }
+    judge_name(d, i)?;
+    Ok(answer_at(d, i))
 }
 
 // ---- names as views
 
-fn no_name(n: u8, place: usize) -> Span
-    ensures { result ≡ refused_name n place }
-{
-    Span {
-        verdict: Verdict::Refused(n, place),
-        start: 0,
-        len: 0,
-        points: Points::Unset,
-    }
-}
-
 // The name of an answer as a view, with its code points: 26 where it has none.
-pub fn view_of(a: SignatureAnswer) -> Span
+pub fn view_of(a: Result<SignatureAnswer, Refusal>) -> Result<Span, Refusal>
     ensures { result ≡ view_of a }
 {
-    let v = a.verdict;
-    let name = a.name;
-    match v {
-        Verdict::Refused(n, place) => no_name(n, place),
-        Verdict::Accepted => match name {
-            Name::Unset => no_name(26, 0),
-            Name::At(start, n, points) => Span {
-                verdict: Verdict::Accepted,
-                start: start,
-                len: n,
-                points: Points::Count(points),
-            },
-        },
+    match a {
+        Ok(SignatureAnswer { name: Some(x), .. }) => Ok(Span {
+            start: x.start,
+            points: Some(x.points),
+            len: x.len,
+        }),
+        Ok(SignatureAnswer { name: None, .. }) => wire::refused(26, 0),
+        Err(r) => Err(r),
     }
 }
 
 // The name of element i as a view: 43 to 45 and 52, then 26.
-pub fn name(d: &[u8], i: usize) -> Span
+pub fn name(d: &[u8], i: usize) -> Result<Span, Refusal>
     ensures { result ≡ view_of (element_of d.now i) }
 {
     view_of(element(d, i))
 }
 
 // The bytes of a name, a part of the caller's slice: none where it is unset or does not lie inside.
-pub fn name_bytes<'a>(d: &'a [u8], name: Name) -> &'a [u8]
+pub fn name_bytes<'a>(d: &'a [u8], name: Option<NameSpan>) -> &'a [u8]
     ensures { result.now ≡ bytes_of d.now name }
 {
-    let len = d.len();
     match name {
-        Name::Unset => &d[0..0],
-        Name::At(start, n, _) => {
-            if len < start {
-                return &d[0..0];
-            }
-            if len - start < n {
-                return &d[0..0];
-            }
-            let end = start + n;
-            &d[start..end]
+        Some(x) if x.start <= d.len() && x.len <= d.len() - x.start => {
+            &d[x.start..x.start + x.len]
         }
+        _ => &d[0..0],
     }
 }

@@ -1,20 +1,17 @@
 -- Worked examples of signature data, as rows of one list: what the definitions give, and beside it what the request says.
 -- Assumes nothing.
+use Rattle.std.specs.Prelude.{Some, None, Result, Ok, Err}
 use Prim.Native.Nat.{ℕ}
 use mathlib.Core.Path.{◌≡◌, refl}
 use mathlib.Core.List.{List, [], ◌∷◌, ◌++◌}
 use lib.ListN.{take}
 use Rattle.wire.specs.Number.{u32_at}
-use Rattle.wire.specs.Verdict.{◌then◌, check, each}
-use Rattle.wire.specs.declared.Verdict.{Verdict}
-use Rattle.wire.specs.declared.Verdict.TheVariants.{Accepted, Refused}
+use Rattle.wire.specs.Verdict.{◌then◌, check, each, under, Verdict, Accepted, Refused}
+use Rattle.wire.specs.declared.Refusal.{Refusal}
 use Rattle.utf8_layout.specs.Sequence.{table, fits, front, more, after, counted, well_formed, code_points}
 use Rattle.psv0_layout.specs.Reference.{has_zero, until_zero, string_ends, string_at, string_good}
-use Rattle.psv0_layout.specs.declared.Points.{Points}
-use Rattle.psv0_layout.specs.declared.Points.TheVariants.{Count}
 use Rattle.psv0_layout.specs.declared.Span.{Span}
 use Rattle.signature_layout.specs.Signature.{element_at, fields_of, name_ends, name_good, name_judged, signature_judged, element_judged, alone_judged, name_of, element_of, alone_of, view_of, bytes_of}
-use Rattle.signature_layout.specs.declared.Name.TheVariants.{At, Unset}
 use Rattle.signature_layout.specs.declared.SignatureAnswer.{SignatureAnswer}
 use Rattle.signature_layout.specs.declared.SignatureElement.{SignatureElement}
 
@@ -118,8 +115,8 @@ pub verdicts_hold : judged ≡ judged_said
 unfolding table fits front more after counted well_formed u32_at ◌then◌ check each has_zero until_zero string_ends string_at string_good element_at name_ends name_good name_judged signature_judged element_judged alone_judged
 verdicts_hold = refl
 
--- ---- what is shown: a name, the empty name at its zero byte, no name, a name of one code point in two bytes, and nothing beside a refusal
-abbrev shown : List SignatureAnswer
+-- ---- what is shown: a name, the empty name at its zero byte, no name, a name of one code point in two bytes, and a refusal alone
+abbrev shown : List (Result SignatureAnswer Refusal)
 shown =
     element_of (two (word 72) (word 74)) 0
     ∷ element_of (two (word 72) (word 74)) 1
@@ -130,40 +127,29 @@ shown =
     ∷ element_of (accented (word 72) (word 73)) 0
     ∷ []
 
-abbrev accepted : ℕ → ℕ → ℕ → SignatureAnswer
-accepted o n c = record { verdict = Accepted; element = fields o; name = At o n c }
+abbrev accepted : ℕ → ℕ → ℕ → Result SignatureAnswer Refusal
+accepted o n c = Ok (record { element = fields o; name = Some (record { start = o; len = n; points = c }) })
 
-abbrev zeros : SignatureElement
-zeros =
-    record {
-      stream = 0;
-      name_offset = 0;
-      index = 0;
-      system_value = 0;
-      component_type = 0;
-      register_number = 0;
-      mask = 0;
-      exclusive_mask = 0;
-      precision = 0;
-    }
+abbrev refused : ℕ → ℕ → Result SignatureAnswer Refusal
+refused n p = Err (record { number = n; place = p })
 
-abbrev shown_said : List SignatureAnswer
+abbrev shown_said : List (Result SignatureAnswer Refusal)
 shown_said =
     accepted 72 2 2
     ∷ accepted 74 0 0
-    ∷ record { verdict = Accepted; element = fields 0; name = Unset }
-    ∷ record { verdict = Refused 45 1; element = zeros; name = Unset }
+    ∷ Ok (record { element = fields 0; name = None })
+    ∷ refused 45 1
     ∷ accepted 73 1 1
     ∷ accepted 72 2 1
-    ∷ record { verdict = Refused 52 1; element = zeros; name = Unset }
+    ∷ refused 52 1
     ∷ []
 
 pub elements_hold : shown ≡ shown_said
-unfolding table fits front more after counted well_formed code_points u32_at ◌then◌ check each has_zero until_zero string_ends string_at string_good element_at fields_of name_ends name_good name_judged signature_judged element_judged alone_judged name_of element_of alone_of
+unfolding table fits front more after counted well_formed code_points u32_at ◌then◌ check each under has_zero until_zero string_ends string_at string_good element_at fields_of name_ends name_good name_judged signature_judged element_judged alone_judged name_of element_of alone_of
 elements_hold = refl
 
--- ---- names as views, with their code points: 26 where there is none, zeros beside a refusal
-abbrev views : List Span
+-- ---- names as views, with their code points: 26 where there is none
+abbrev views : List (Result Span Refusal)
 views =
     view_of (element_of (two (word 72) (word 0)) 0)
     ∷ view_of (element_of (two (word 72) (word 0)) 1)
@@ -171,17 +157,17 @@ views =
     ∷ view_of (element_of (accented (word 72) (word 74)) 0)
     ∷ []
 
-abbrev views_said : List Span
+abbrev views_said : List (Result Span Refusal)
 views_said =
-    record { verdict = Accepted; start = 72; len = 2; points = Count 2 }
-    ∷ record { verdict = Refused 26 0; start = 0; len = 0; points = Points.Unset }
-    ∷ record { verdict = Refused 45 1; start = 0; len = 0; points = Points.Unset }
-    ∷ record { verdict = Accepted; start = 72; len = 2; points = Count 1 }
+    Ok (record { start = 72; points = Some 2; len = 2 })
+    ∷ Err (record { number = 26; place = 0 })
+    ∷ Err (record { number = 45; place = 1 })
+    ∷ Ok (record { start = 72; points = Some 1; len = 2 })
     ∷ []
 
 pub views_hold : views ≡ views_said
-unfolding table fits front more after counted well_formed code_points u32_at ◌then◌ check each has_zero until_zero string_ends string_at string_good element_at fields_of name_ends name_good name_judged signature_judged element_judged name_of element_of
+unfolding table fits front more after counted well_formed code_points u32_at ◌then◌ check each under has_zero until_zero string_ends string_at string_good element_at fields_of name_ends name_good name_judged signature_judged element_judged name_of element_of
 views_hold = refl
 
-pub bytes_hold : bytes_of (two (word 72) (word 0)) (At 72 2 2) ≡ 66 ∷ 67 ∷ []
+pub bytes_hold : bytes_of (two (word 72) (word 0)) (Some (record { start = 72; len = 2; points = 2 })) ≡ 66 ∷ 67 ∷ []
 bytes_hold = refl

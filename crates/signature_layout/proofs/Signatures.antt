@@ -1,9 +1,11 @@
 -- The checks of a signature's data at numbers that the code holds, what an accepted signature tells, and that an element by itself is
 -- answered as the whole reader answers it.
 -- Assumes nothing.
+use Rattle.std.specs.Prelude.{Some, None, Ok}
 use Prim.Native.Nat.{ℕ, ◌+◌, ◌-◌, ◌*◌, ◌≤◌, ◌<◌}
 use mathlib.Core.Path.{◌≡◌, refl, sym, ◌∙◌, ap}
 use mathlib.Core.Bool.{Bool, true, false, not, ◌&&◌}
+use mathlib.Core.Logic.{◌⊎◌, inl, inr}
 use mathlib.Core.List.{List}
 use native.Mathlib.Omega.{arith}
 use native.Mathlib.Numerals.{add-one}
@@ -11,12 +13,9 @@ use lib.Dec.{leb, ltb, eqb}
 use lib.ListN.{length, take, drop}
 use borrow.Author.Tests.{le-leb, lt-leb, leb-true, leb-false, lt-ltb, le-ltb, ltb-true, ltb-false, eq-eqb, ne_eqb, eqb-true, eqb-false}
 use Rattle.wire.specs.Choice.{choose}
-use Rattle.wire.specs.Number.{u32_at}
 use Rattle.wire.specs.Search.{first}
-use Rattle.wire.specs.Verdict.{◌then◌, check, each}
-use Rattle.wire.specs.declared.Verdict.{Verdict}
-use Rattle.wire.specs.declared.Verdict.TheVariants.{Accepted, Refused}
-use Rattle.wire.proofs.Verdicts.{then_accepted, check_then, check_accepted, each_accepted, each_stop, each_next}
+use Rattle.wire.specs.Verdict.{◌then◌, check, each, Accepted, Refused}
+use Rattle.wire.proofs.Verdicts.{then_accepted, check_then, check_accepted, each_accepted, each_stop, each_next, accepted_by, value_by}
 use Rattle.wire.proofs.Searches.{first_agree, first_below, first_at}
 use Rattle.utf8_layout.specs.Sequence.{well_formed, code_points}
 use Rattle.psv0_layout.specs.Position.{UpToLastZero, PlainFrom, reference_at}
@@ -24,8 +23,9 @@ use Rattle.psv0_layout.specs.Reference.{string_ends, string_good, string_at}
 use Rattle.psv0_layout.proofs.Positions.{part_u32}
 use Rattle.psv0_layout.proofs.References.{string_ends_lem, string_is, ends_length, good_parts, plain_good}
 use Rattle.signature_layout.specs.Named.{NamesFrom, NamesDecided}
-use Rattle.signature_layout.specs.Signature.{count_of, first_of, start_of, element_at, name_offset_of, name_ends, name_good, name_judged, signature_judged, element_judged, alone_judged, name_of, refused_element, answer_if, element_of, alone_of}
-use Rattle.signature_layout.specs.declared.Name.TheVariants.{At, Unset}
+use Rattle.signature_layout.specs.Signature.{count_of, first_of, start_of, element_at, name_offset_of, name_ends, name_good, name_judged, signature_judged, element_judged, alone_judged, name_of, element_shown, element_of, alone_of}
+use Rattle.signature_layout.specs.declared.NameSpan.{NameSpan}
+use Rattle.signature_layout.specs.declared.SignatureAnswer.{SignatureAnswer}
 
 -- ---- 43 and 44: n is the count that was read and f the first element's offset
 module _ (d : List ℕ) where
@@ -41,11 +41,6 @@ module _ (d : List ℕ) where
     pub names_decide : f + 32 * n ≤ length d → each (name_judged d) (count_of d) ≡ signature_judged d
     unfolding signature_judged check ◌then◌
     names_decide h = simp (le-leb _ _ l, le-leb _ _ (rw (ef, en) at h))
-
--- ---- the name offset o that was read of element i, which is at the place at
-pub offset_read : (d : List ℕ) (i : ℕ) {at o : ℕ} → at ≡ start_of d i → o ≡ u32_at (take (at + 32 - at) (drop at d)) 4 → o ≡ name_offset_of d i
-unfolding element_at
-offset_read d i {at} p e = let w : at + 32 - at ≡ 32 = omega arith in e ∙ rw (w, p)
 
 -- ---- 45 and 52: a name offset that isn't 0
 module _ (d : List ℕ) {o : ℕ} (f : o ≡ 0 → ⊥) where
@@ -81,25 +76,23 @@ ends_by_zero d o {m} u = go (eqb o 0) refl
         let l : 0 < o = omega arith in
         ends_named d f ∙ string_ends_lem d m o u ∙ before (leb m o) refl ∙ rw (lt-ltb 0 o l)
 
--- ---- from where on the names of the first i elements lie, and with element i, which is at the place at, of one more
+-- ---- from where on the names of the first i elements lie, and with element i of one more
 pub names_none : (d : List ℕ) (m : ℕ) → NamesFrom d m 0
 names_none d m j l z = absurd (omega arith)
 
-module _ (d : List ℕ) (i : ℕ) {at o : ℕ} (p : at ≡ start_of d i) (eo : o ≡ u32_at (take (at + 32 - at) (drop at d)) 4) where
-  pub names_more : {m r : ℕ} → NamesFrom d m i → r ≤ m → ((o ≡ 0 → ⊥) → r ≤ o) → NamesFrom d r (i + 1)
-  names_more {m} {r} f h g j l z = go (ltb j i) refl
-    where
-      go : (t : Bool) → ltb j i ≡ t → r ≤ name_offset_of d j
-      go true q = let k = f j (ltb-true j i q) z in omega arith
-      go false q =
-          let k = ltb-false j i q in
-          let e : j ≡ i = omega arith in
-          let n : o ≡ name_offset_of d j = rw e (offset_read d i p eo) in
-          rw n at (g (λ w. z (sym n ∙ w)))
+pub names_more : (d : List ℕ) (i : ℕ) {m r : ℕ} → NamesFrom d m i → r ≤ m → ((name_offset_of d i ≡ 0 → ⊥) → r ≤ name_offset_of d i) → NamesFrom d r (i + 1)
+names_more d i {m} {r} f h g j l z = go (ltb j i) refl
+  where
+    go : (t : Bool) → ltb j i ≡ t → r ≤ name_offset_of d j
+    go true q = let k = f j (ltb-true j i q) z in omega arith
+    go false q =
+        let k = ltb-false j i q in
+        let e : j ≡ i = omega arith in
+        rw e (g (rw e at z))
 
 -- ---- which names that end are well formed; n is the count
 module _ (d : List ℕ) {n : ℕ} (en : n ≡ count_of d) where
-  pub decided_none : n ≡ 0 → NamesDecided d 0
+  pub decided_none : n ≡ 0 → NamesDecided d n
   decided_none z = record { told = λ i h. absurd (omega arith) }
 
   -- all, where every byte from the first name on is below 0x80
@@ -148,20 +141,22 @@ module _ (d : List ℕ) {n : ℕ} (en : n ≡ count_of d) where
         → NamesDecided d ill
     decided_search e = decided_first (e ∙ first_agree _ _ n (λ i h. rw (reference_is i h)) ∙ ap (first (λ i. not (name_good d (name_offset_of d i)))) en)
 
--- ---- the loop over the elements: element i is at the place at, and its name offset is o; m is the end of the last string
-module _ (d : List ℕ) (i : ℕ) {at o m ill : ℕ} (p : at ≡ start_of d i) (eo : o ≡ u32_at (take (at + 32 - at) (drop at d)) 4)
-    (u : UpToLastZero d m) (q : NamesDecided d ill) (so_far : each (name_judged d) i ≡ Accepted) (h : i < count_of d) (l : i ≤ ill)
-    {r : Bool} (er : r ≡ (ltb 0 o && leb m o)) where
-  ends_is : name_ends d (name_offset_of d i) ≡ not r
-  ends_is = rw (er, offset_read d i p eo) (ends_by_zero d (name_offset_of d i) u)
-
-  pub cut_name : r ≡ true → Refused 45 i ≡ each (name_judged d) (count_of d)
+-- ---- the loop over the elements: the name offset of element i is o; m is the end of the last string
+module _ (d : List ℕ) (i : ℕ) {o m ill : ℕ} (eo : o ≡ name_offset_of d i)
+    (u : UpToLastZero d m) (q : NamesDecided d ill) (so_far : each (name_judged d) i ≡ Accepted) (h : i < count_of d) (l : i ≤ ill) where
+  pub cut_name : (o ≡ 0 → ⊥) → m ≤ o → Refused 45 i ≡ each (name_judged d) (count_of d)
   unfolding name_judged check ◌then◌
-  cut_name e = sym (each_stop _ i _ 45 i h so_far (simp (ends_is, e)))
+  cut_name z g =
+      let e : name_ends d o ≡ false = ends_by_zero d o u ∙ rw (lt-ltb 0 o (omega arith), le-leb m o g) in
+      sym (each_stop _ i _ 45 i h so_far (rw (← eo) (simp e)))
 
-  module _ (e : r ≡ false) where
+  module _ (g : ((o ≡ 0 → ⊥) × (o < m)) ⊎ (o ≡ 0)) where
     ends : name_ends d (name_offset_of d i) ≡ true
-    ends = ends_is ∙ rw e
+    ends = rw (← eo) (go g)
+      where
+        go : ((o ≡ 0 → ⊥) × (o < m)) ⊎ (o ≡ 0) → name_ends d o ≡ true
+        go (inl (f, k)) = ends_by_zero d o u ∙ rw (lt-ltb 0 o (omega arith), lt-leb m o k)
+        go (inr z) = ends_unnamed d z
 
     good_is : name_good d (name_offset_of d i) ≡ not (eqb i ill)
     good_is = q.told i h l ends
@@ -215,69 +210,53 @@ module _ (d : List ℕ) (a : signature_judged d ≡ Accepted) where
   pub name_accepted : (i : ℕ) → i < count_of d → name_judged d i ≡ Accepted
   name_accepted i h = each_accepted _ _ i told.2 h
 
--- ---- element i of a signature with the verdict v, whose count n was read
-module _ (d : List ℕ) (i : ℕ) {v : Verdict} (hv : v ≡ signature_judged d) where
-  pub refused_whole : {n p : ℕ} → v ≡ Refused n p → refused_element n p ≡ element_of d i
-  unfolding element_of element_judged ◌then◌
-  refused_whole e = rw (← hv, e)
+-- ---- element i of a signature that was read: n is its count
+module _ (d : List ℕ) (i : ℕ) {n : ℕ} (a : signature_judged d ≡ Accepted) (en : n ≡ count_of d) where
+  pub none_there : n ≤ i → Refused 26 0 ≡ element_judged d i
+  unfolding element_judged check ◌then◌
+  none_there h = rw (a, le-ltb i (count_of d) (rw en at h))
 
-  module _ (e : v ≡ Accepted) {n : ℕ} (en : n ≡ count_of d) where
-    pub none_there : n ≤ i → refused_element 26 0 ≡ element_of d i
-    unfolding element_of element_judged check ◌then◌
-    none_there h = rw (← hv, e, le-ltb i (count_of d) (rw en at h))
+  pub one_there : i < n → Accepted ≡ element_judged d i
+  unfolding element_judged check ◌then◌
+  one_there h = rw (a, lt-ltb i (count_of d) (rw en at h))
 
-    pub shown_there : i < n → answer_if Accepted d i ≡ element_of d i
-    unfolding element_of element_judged check ◌then◌
-    shown_there h = rw (← hv, e, lt-ltb i (count_of d) (rw en at h))
+  pub there_inside : i < n → start_of d i + 32 ≤ length d
+  there_inside h = element_inside_lem d a i (rw en at h)
 
-    pub there_inside : i < n → start_of d i + 32 ≤ length d
-    there_inside h = element_inside_lem d (sym hv ∙ e) i (rw en at h)
-
-    pub there_good : i < n → name_good d (name_offset_of d i) ≡ true
-    there_good h = judged_good d i (name_accepted d (sym hv ∙ e) i (rw en at h))
+  pub there_good : i < n → name_good d (name_offset_of d i) ≡ true
+  there_good h = judged_good d i (name_accepted d a i (rw en at h))
 
 -- ---- a name tells its offset o
-pub set_offset : (d : List ℕ) (o : ℕ) {s n c : ℕ} → name_of d o ≡ At s n c
-    → (o ≡ 0 → ⊥) × (o ≡ s) × (n ≡ length (string_at d o)) × (c ≡ code_points (string_at d o))
+pub set_offset : (d : List ℕ) (o : ℕ) {x : NameSpan} → name_of d o ≡ Some x
+    → (o ≡ 0 → ⊥) × (o ≡ x.start) × (x.len ≡ length (string_at d o)) × (x.points ≡ code_points (string_at d o))
 unfolding name_of
-set_offset d o {s} {n} {c} = go (eqb o 0) refl
+set_offset d o {x} = go (eqb o 0) refl
   where
-    go : (t : Bool) → eqb o 0 ≡ t → choose t Unset (At o (length (string_at d o)) (code_points (string_at d o))) ≡ At s n c
-        → (o ≡ 0 → ⊥) × (o ≡ s) × (n ≡ length (string_at d o)) × (c ≡ code_points (string_at d o))
+    go : (t : Bool) → eqb o 0 ≡ t → choose t None (Some (record { start = o; len = length (string_at d o); points = code_points (string_at d o) })) ≡ Some x
+        → (o ≡ 0 → ⊥) × (o ≡ x.start) × (x.len ≡ length (string_at d o)) × (x.points ≡ code_points (string_at d o))
     go true q e = absurd (let z : ◌≡◌ {A = ℕ} 0 1 = cc in omega arith)
     go false q e = (eqb-false o 0 q, cc, cc, cc)
 
 -- ---- element i by itself: n is the count, f the first element's offset
 module _ (d : List ℕ) (i : ℕ) where
-  pub alone_43 : length d < 8 → refused_element 43 0 ≡ alone_of d i
-  unfolding alone_of alone_judged check ◌then◌
+  pub alone_43 : length d < 8 → Refused 43 0 ≡ alone_judged d i
+  unfolding alone_judged check ◌then◌
   alone_43 h = simp (lt-leb _ _ h)
 
   module _ (l : 8 ≤ length d) {n : ℕ} (en : n ≡ count_of d) where
-    pub alone_26 : n ≤ i → refused_element 26 0 ≡ alone_of d i
-    unfolding alone_of alone_judged check ◌then◌
+    pub alone_26 : n ≤ i → Refused 26 0 ≡ alone_judged d i
+    unfolding alone_judged check ◌then◌
     alone_26 h = simp (le-leb _ _ l, le-ltb i (count_of d) (rw en at h))
 
     module _ (h : i < n) {f : ℕ} (ef : f ≡ first_of d) where
-      pub alone_44 : length d < f + 32 * i + 32 → refused_element 44 0 ≡ alone_of d i
-      unfolding alone_of alone_judged check ◌then◌
+      pub alone_44 : length d < f + 32 * i + 32 → Refused 44 0 ≡ alone_judged d i
+      unfolding alone_judged check ◌then◌
       alone_44 g = simp (le-leb _ _ l, lt-ltb i (count_of d) (rw en at h), lt-leb _ _ (rw ef at g))
 
-      module _ (g : f + 32 * i + 32 ≤ length d) where
-        alone_judged_lem : answer_if (name_judged d i) d i ≡ alone_of d i
-        unfolding alone_of alone_judged check ◌then◌
-        alone_judged_lem = simp (le-leb _ _ l, lt-ltb i (count_of d) (rw en at h), le-leb _ _ (rw ef at g))
-
-        -- v is what its name is judged
-        module _ {v : Verdict} (ev : v ≡ name_judged d i) where
-          pub alone_refused : {m p : ℕ} → v ≡ Refused m p → refused_element m p ≡ alone_of d i
-          alone_refused e = rw (← ev, e) at alone_judged_lem
-
-          pub alone_shown : v ≡ Accepted → answer_if Accepted d i ≡ alone_of d i
-          alone_shown e = rw (← ev, e) at alone_judged_lem
-
-          pub alone_good : v ≡ Accepted → name_good d (name_offset_of d i) ≡ true
-          alone_good e = judged_good d i (sym ev ∙ e)
+      -- the rest is what its name is judged
+      pub alone_name : f + 32 * i + 32 ≤ length d → name_judged d i ≡ alone_judged d i
+      unfolding alone_judged check ◌then◌
+      alone_name g = simp (le-leb _ _ l, lt-ltb i (count_of d) (rw en at h), le-leb _ _ (rw ef at g))
 
 -- ---- "answers as the whole reader does wherever that accepts"
 module _ (d : List ℕ) (i : ℕ) (a : signature_judged d ≡ Accepted) where
@@ -297,27 +276,25 @@ module _ (d : List ℕ) (i : ℕ) (a : signature_judged d ≡ Accepted) where
 
 -- ---- the name of an element that is accepted lies inside, its zero byte too, is well formed and is the string at its offset; its number of code
 -- points is that of its bytes
-module _ (d : List ℕ) (i : ℕ) {s n c : ℕ} (a : name_judged d i ≡ Accepted) (e : name_of d (name_offset_of d i) ≡ At s n c) where
-  pub name_shown : (s + n < length d) × (take n (drop s d) ≡ string_at d s)
+module _ (d : List ℕ) (i : ℕ) {x : NameSpan} (a : name_judged d i ≡ Accepted) (e : name_of d (name_offset_of d i) ≡ Some x) where
+  pub name_shown : (x.start + x.len < length d) × (take x.len (drop x.start d) ≡ string_at d x.start)
   name_shown =
       let (f, es, en, ec) = set_offset d (name_offset_of d i) e in
       let g : string_ends d (name_offset_of d i) ≡ true = (good_parts d (name_offset_of d i) (sym (good_named d f) ∙ judged_good d i a)).0 in
       let l : name_offset_of d i + length (string_at d (name_offset_of d i)) < length d = ltb-true _ _ (sym (ends_length d (name_offset_of d i)) ∙ g) in
-      let (k, q) = string_is d (name_offset_of d i) n en (omega arith) in
+      let (k, q) = string_is d (name_offset_of d i) x.len en (omega arith) in
       (omega arith, rw es at (sym q))
 
-  pub name_points : (well_formed (take n (drop s d)) ≡ true) × (c ≡ code_points (take n (drop s d)))
+  pub name_points : (well_formed (take x.len (drop x.start d)) ≡ true) × (x.points ≡ code_points (take x.len (drop x.start d)))
   name_points =
       let (f, es, en, ec) = set_offset d (name_offset_of d i) e in
       let w = (good_parts d (name_offset_of d i) (sym (good_named d f) ∙ judged_good d i a)).1 in
       rw name_shown.1 (rw es at w, rw es at ec)
 
-pub name_inside : (d : List ℕ) (i : ℕ) {s n c : ℕ} → (element_of d i).name ≡ At s n c → s + n < length d
+pub name_inside : (d : List ℕ) (i : ℕ) {a : SignatureAnswer} {x : NameSpan} → element_of d i ≡ Ok a → a.name ≡ Some x → x.start + x.len < length d
 unfolding element_of element_judged
-name_inside d i {s} {n} {c} = go (element_judged d i) refl
-  where
-    go : (v : Verdict) → element_judged d i ≡ v → (answer_if v d i).name ≡ At s n c → s + n < length d
-    go Accepted a e =
-        let (j, c) = then_accepted _ _ a in
-        (name_shown d i (name_accepted d j i (ltb-true i (count_of d) (check_accepted _ 26 0 c))) e).0
-    go (Refused m p) a e = absurd (let z : ◌≡◌ {A = ℕ} 0 1 = cc in omega arith)
+name_inside d i {a} {x} w e =
+    let v = accepted_by _ _ refl w in
+    let (j, c) = then_accepted _ _ v in
+    let z : a ≡ element_shown d i = value_by _ _ refl w in
+    (name_shown d i (name_accepted d j i (ltb-true i (count_of d) (check_accepted _ 26 0 c))) (rw z at e)).0

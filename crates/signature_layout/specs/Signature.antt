@@ -1,20 +1,14 @@
 -- The data d of a part ISG1, OSG1 or PSG1: the header, the elements and their names. Document 02, Ask 3. All of it is total: past the end a
 -- byte is 0.
-use Rattle.std.specs.Prelude.{Bool, ◌||◌, List, [], ℕ, ◌+◌, ◌*◌, leb, ltb, eqb, length, get_or, take, drop}
+use Rattle.std.specs.Prelude.{Option, Some, None, Result, Ok, Err, Bool, ◌||◌, List, [], ℕ, ◌+◌, ◌*◌, leb, ltb, eqb, length, get_or, take, drop}
 use Rattle.utf8_layout.specs.Sequence.{code_points}
 use Rattle.wire.specs.Choice.{choose}
 use Rattle.wire.specs.Number.{u32_at}
-use Rattle.wire.specs.Verdict.{◌then◌, check, each}
-use Rattle.wire.specs.declared.Verdict.{Verdict}
-use Rattle.wire.specs.declared.Verdict.TheVariants.{Accepted, Refused}
-use Rattle.psv0_layout.specs.Answers.{number_beside}
+use Rattle.wire.specs.Verdict.{◌then◌, check, each, under, Verdict, Accepted, Refused}
+use Rattle.wire.specs.declared.Refusal.{Refusal}
 use Rattle.psv0_layout.specs.Reference.{string_ends, string_good, string_at}
-use Rattle.psv0_layout.specs.declared.Points.{Points}
-use Rattle.psv0_layout.specs.declared.Points.TheVariants.{Count}
 use Rattle.psv0_layout.specs.declared.Span.{Span}
-use Rattle.signature_layout.specs.declared.Name.{Name}
-use Rattle.signature_layout.specs.declared.Name.TheVariants.{At, Unset}
-use Rattle.signature_layout.specs.declared.Signature.{Signature}
+use Rattle.signature_layout.specs.declared.NameSpan.{NameSpan}
 use Rattle.signature_layout.specs.declared.SignatureAnswer.{SignatureAnswer}
 use Rattle.signature_layout.specs.declared.SignatureElement.{SignatureElement}
 
@@ -84,56 +78,35 @@ alone_judged d i =
     then check (leb (start_of d i + 32) (length d)) 44 0
     then name_judged d i
 
--- ---- what is shown
-unfoldable pub signature_of : List ℕ → Signature
-signature_of d = record { verdict = signature_judged d; count = number_beside (signature_judged d) (count_of d) }
+-- ---- what is shown: the element count
+unfoldable pub signature_of : List ℕ → Result ℕ Refusal
+signature_of d = under (signature_judged d) (count_of d)
 
 -- the name at the offset o: unset where that is 0, else up to the first zero byte, with its code points
-unfoldable pub name_of : List ℕ → ℕ → Name
-name_of d o = choose (eqb o 0) Unset (At o (length (string_at d o)) (code_points (string_at d o)))
+unfoldable pub name_of : List ℕ → ℕ → Option NameSpan
+name_of d o = choose (eqb o 0) None (Some (record { start = o; len = length (string_at d o); points = code_points (string_at d o) }))
 
--- zeros and unset beside a refusal
-abbrev pub no_element : SignatureElement
-no_element =
-    record {
-      stream = 0;
-      name_offset = 0;
-      index = 0;
-      system_value = 0;
-      component_type = 0;
-      register_number = 0;
-      mask = 0;
-      exclusive_mask = 0;
-      precision = 0;
-    }
+-- element i
+abbrev pub element_shown : List ℕ → ℕ → SignatureAnswer
+element_shown d i = record { element = fields_of (element_at d i); name = name_of d (name_offset_of d i) }
 
-abbrev pub refused_element : ℕ → ℕ → SignatureAnswer
-refused_element n p = record { verdict = Refused n p; element = no_element; name = Unset }
+-- element i of all that are judged, and element i by itself
+unfoldable pub element_of : List ℕ → ℕ → Result SignatureAnswer Refusal
+element_of d i = under (element_judged d i) (element_shown d i)
 
-abbrev pub answer_if : Verdict → List ℕ → ℕ → SignatureAnswer
-answer_if Accepted d i = record { verdict = Accepted; element = fields_of (element_at d i); name = name_of d (name_offset_of d i) }
-answer_if (Refused n p) d i = refused_element n p
-
--- element i, and element i by itself
-unfoldable pub element_of : List ℕ → ℕ → SignatureAnswer
-element_of d i = answer_if (element_judged d i) d i
-
-unfoldable pub alone_of : List ℕ → ℕ → SignatureAnswer
-alone_of d i = answer_if (alone_judged d i) d i
+unfoldable pub alone_of : List ℕ → ℕ → Result SignatureAnswer Refusal
+alone_of d i = under (alone_judged d i) (element_shown d i)
 
 -- the name of an answer as a view: 26 where it has none
-abbrev pub refused_name : ℕ → ℕ → Span
-refused_name n p = record { verdict = Refused n p; start = 0; len = 0; points = Points.Unset }
+abbrev pub name_view : Option NameSpan → Result Span Refusal
+name_view (Some x) = Ok (record { start = x.start; points = Some x.points; len = x.len })
+name_view None = Err (record { number = 26; place = 0 })
 
-abbrev pub view_if : Verdict → Name → Span
-view_if Accepted (At s n c) = record { verdict = Accepted; start = s; len = n; points = Count c }
-view_if Accepted Unset = refused_name 26 0
-view_if (Refused n p) x = refused_name n p
-
-abbrev pub view_of : SignatureAnswer → Span
-view_of a = view_if a.verdict a.name
+abbrev pub view_of : Result SignatureAnswer Refusal → Result Span Refusal
+view_of (Ok a) = name_view a.name
+view_of (Err r) = Err r
 
 -- the bytes of a name in d: none where it is unset or does not lie inside
-abbrev pub bytes_of : List ℕ → Name → List ℕ
-bytes_of d (At s n c) = choose (leb (s + n) (length d)) (take n (drop s d)) []
-bytes_of d Unset = []
+abbrev pub bytes_of : List ℕ → Option NameSpan → List ℕ
+bytes_of d (Some x) = choose (leb (x.start + x.len) (length d)) (take x.len (drop x.start d)) []
+bytes_of d None = []

@@ -2,9 +2,7 @@
 // reader is a crate of its own.
 #![tactic(auto)]
 
-use wire::Verdict;
-
-// The fields of a signature element. A refusal has zeros.
+// The fields of a signature element.
 #[derive(Clone, Copy)]
 pub struct SignatureElement {
     pub stream: u32,
@@ -18,24 +16,17 @@ pub struct SignatureElement {
     pub precision: u32,
 }
 
-// A name as a stretch of the bytes that were asked: where it starts, its length and its code points; or that there is none.
-#[derive(Clone, Copy)]
-pub enum Name {
-    At(usize, usize, usize),
-    Unset,
+// A name as a stretch of the bytes that were asked: where it starts, its length and its code points.
+#[derive(Clone, Copy, Default)]
+pub struct NameSpan {
+    pub start: usize,
+    pub len: usize,
+    pub points: usize,
 }
 
-// The verdict on a signature and its element count. A refusal has zero.
-#[derive(Clone, Copy)]
-pub struct Signature {
-    pub verdict: Verdict,
-    pub count: usize,
-}
-
-// The verdict, one element's fields and its name. A refusal has zeros, and the name is unset.
+// One element's fields and its name, if it has one.
 #[derive(Clone, Copy)]
 pub struct SignatureAnswer {
-    pub verdict: Verdict,
     pub element: SignatureElement,
-    pub name: Name,
+    pub name: Option<NameSpan>,
 }

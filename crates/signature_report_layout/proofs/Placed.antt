@@ -1,6 +1,7 @@
 -- The second report by a record of places: the steps of its code, by any record, of any bytes; and that by the record of an opening of the bytes it is the
 -- report on them.
 -- Assumes nothing.
+use Rattle.std.specs.Prelude.{Option, Result, Ok, Err, IsErr, IsErrAnd}
 use Prim.Native.Nat.{ℕ, ◌+◌, ◌-◌, ◌*◌, ◌/◌, ◌≤◌}
 use mathlib.Core.Path.{◌≡◌, refl, sym, ◌∙◌, ap}
 use mathlib.Core.Bool.{true}
@@ -8,20 +9,19 @@ use mathlib.Core.List.{List}
 use native.Mathlib.Omega.{arith}
 use native.Mathlib.Nat.{mul-le-mul_right, mul-div-le, le_trans}
 use lib.ListN.{length, take, drop}
-use Rattle.wire.specs.Verdict.{◌then◌, check}
-use Rattle.wire.specs.declared.Verdict.TheVariants.{Accepted, Refused}
-use Rattle.wire.proofs.Verdicts.{last_then, stop_then, pass_then}
+use Rattle.wire.specs.Verdict.{◌then◌, check, under, verdict_of, Accepted, Refused}
+use Rattle.wire.specs.declared.Refusal.{Refusal}
+use Rattle.wire.proofs.Verdicts.{last_then, stop_then, pass_then, refuses, accepts, refused_by, accepted_by, value_by}
 use Rattle.part_table_layout.specs.Lookup.{find}
-use Rattle.part_table_layout.specs.declared.Found.{Found}
-use Rattle.part_table_layout.specs.declared.Found.TheVariants.{Nothing}
 use Rattle.part_table_layout.specs.declared.Part.{Part}
 use Rattle.psv0_layout.specs.Answers.{field_of, info_of, info_answer_of, bytes_of}
 use Rattle.psv0_layout.specs.Handed.{Section, string_table, element_records, handed}
 use Rattle.psv0_layout.specs.Layout.{edition_read_of}
 use Rattle.psv0_layout.specs.Shown.{Value, unset, number, view, Question, input_elements, output_elements, patch_elements}
-use Rattle.psv0_layout.specs.declared.InfoAnswer.{InfoAnswer}
+use Rattle.psv0_layout.specs.declared.RuntimeInfo.{RuntimeInfo}
 use Rattle.psv0_layout.specs.declared.Section.TheVariants.{StringTable, ElementRecords}
 use Rattle.psv0_layout.specs.declared.Span.{Span}
+use Rattle.psv0_layout.proofs.Spans.{passed_err}
 use Rattle.places_layout.specs.Answers.{shown_by, info_by, SectionBy}
 use Rattle.places_layout.specs.Handed.{handed_by}
 use Rattle.places_layout.specs.Read.{Answer}
@@ -30,13 +30,11 @@ use Rattle.container_layout.specs.Container.{is_there, psv_of, container_judged,
 use Rattle.container_layout.specs.Placed.{container_places}
 use Rattle.container_layout.proofs.Placed.{answers_fresh, hands_fresh, info_fresh}
 use Rattle.container_layout.proofs.Parts.{opens, part_fits}
-use Rattle.container_layout.proofs.Reports.{reported_open, no_report, data_reported, data_there}
+use Rattle.container_layout.proofs.Reports.{reported_open, part_passed, data_reported, data_there}
 use Rattle.signature_layout.specs.Signature.{signature_judged, signature_of}
-use Rattle.signature_layout.specs.declared.Signature.{Signature}
 use Rattle.signature_report_layout.specs.Listed.{count_in, listed, list_of}
 use Rattle.signature_report_layout.specs.Placed.{needed_by, names_by, difference_by}
 use Rattle.signature_report_layout.specs.Reported.{part_name, signature_data, signature_reported, count_shown, list_size, list_before, psv_name, first_difference, difference_if, difference_of}
-use Rattle.signature_report_layout.specs.declared.DifferenceReport.{DifferenceReport}
 use Rattle.signature_report_layout.specs.declared.SignaturePart.{SignaturePart}
 use Rattle.signature_report_layout.proofs.Agreed.{difference_if_lem}
 use Rattle.signature_report_layout.proofs.Names.{list_within, names_listed}
@@ -52,7 +50,7 @@ module _ (s : SignaturePart) (i m p f n w : ℕ) (c : List ℕ) (ef : f ≡ list
   pub list_inside : (f + n) * w ≤ length c
   list_inside = le_trans (mul-le-mul_right w within) (rw ew (mul-div-le (length c) (i + m + p)))
 
-  pub list_is : (d t : List ℕ) {x : Found} {i' m' p' : ℕ} → i ≡ i' → m ≡ m' → p ≡ p' → x ≡ first_difference d (listed t c f n w)
+  pub list_is : (d t : List ℕ) {x : Option ℕ} {i' m' p' : ℕ} → i ≡ i' → m ≡ m' → p ≡ p' → x ≡ first_difference d (listed t c f n w)
       → x ≡ first_difference d (list_of s i' m' p' t c)
   unfolding list_of
   list_is d t ei em ep ex = ex ∙ rw (ew, ef, en, ei, em, ep)
@@ -68,67 +66,77 @@ slice_is : (b : List ℕ) (x : Span) → take (x.start + x.len - x.start) (drop 
 slice_is b x = let z : x.start + x.len - x.start ≡ x.len = omega arith in rw z
 
 module _ (p : SectionPlaces) (b d : List ℕ) (s : SignaturePart) where
-  refused_needed : {n q : ℕ} → Refused n q ≡ needed_by p b
-      → record { verdict = Refused n q; first = Nothing } ≡ difference_if (needed_by p b) d (names_by p b s)
-  refused_needed e = rw (← e)
+  module _ {w : Result (Option ℕ) Refusal} {e : Refusal} (hw : IsErr w × IsErrAnd w (λ (u : Refusal). u ≡ e)) where
+    refused_needed : Refused e.number e.place ≡ needed_by p b → w ≡ difference_if (needed_by p b) d (names_by p b s)
+    refused_needed h = refuses _ _ (passed_err _ hw) h
 
-  module _ {a : InfoAnswer} (ha : a ≡ info_by p b) where
-    pub no_record : {n q : ℕ} → a.verdict ≡ Refused n q
-        → record { verdict = Refused n q; first = Nothing } ≡ difference_if (needed_by p b) d (names_by p b s)
-    no_record e = refused_needed (unfold needed_by in stop_then _ _ _ _ (rw ha at e))
+    pub no_record : {a : Result RuntimeInfo Refusal} → a ≡ info_by p b → a ≡ Err e → w ≡ difference_if (needed_by p b) d (names_by p b s)
+    no_record ha h = refused_needed (unfold needed_by verdict_of in stop_then _ _ _ _ (ap verdict_of (sym ha ∙ h)))
 
-    module _ (ea : a.verdict ≡ Accepted) {x : Span} (hx : SectionBy p b StringTable x) where
-      pub no_table : {n q : ℕ} → x.verdict ≡ Refused n q
-          → record { verdict = Refused n q; first = Nothing } ≡ difference_if (needed_by p b) d (names_by p b s)
-      no_table e = refused_needed (unfold needed_by in pass_then _ _ _ (rw ha at ea) (stop_then _ _ _ _ (sym hx.verdict ∙ e)))
+  module _ {a : Result RuntimeInfo Refusal} (ha : a ≡ info_by p b) {i : RuntimeInfo} (ea : a ≡ Ok i) where
+    record_there : verdict_of (info_by p b) ≡ Accepted
+    unfolding verdict_of
+    record_there = ap verdict_of (sym ha ∙ ea)
 
-      module _ (ex : x.verdict ≡ Accepted) {y : Span} (hy : SectionBy p b ElementRecords y) where
-        pub no_records : {n q : ℕ} → y.verdict ≡ Refused n q
-            → record { verdict = Refused n q; first = Nothing } ≡ difference_if (needed_by p b) d (names_by p b s)
-        no_records e =
-            refused_needed (unfold needed_by in pass_then _ _ _ (rw ha at ea) (pass_then _ _ _ (sym hx.verdict ∙ ex) (sym e ∙ hy.verdict)))
+    info_is : i ≡ info_of (shown_by p b)
+    unfolding info_by
+    info_is = value_by _ _ ha ea
 
-        pub all_there : (r : Found) → y.verdict ≡ Accepted
-            → r ≡ first_difference d (list_of s (count_in a.info.input_elements) (count_in a.info.output_elements) (count_in a.info.patch_elements)
-            (take (x.start + x.len - x.start) (drop x.start b)) (take (y.start + y.len - y.start) (drop y.start b)))
-            → record { verdict = Accepted; first = r } ≡ difference_if (needed_by p b) d (names_by p b s)
-        unfolding names_by info_by info_of
-        all_there r e er =
-            let v : Accepted ≡ needed_by p b =
-            unfold needed_by in pass_then _ _ _ (rw ha at ea) (pass_then _ _ _ (sym hx.verdict ∙ ex) (sym e ∙ hy.verdict)) in
-            let i : count_in a.info.input_elements ≡ count_shown (shown_by p b input_elements) =
-            ap (λ (z : InfoAnswer). count_in z.info.input_elements) ha ∙ field_count (shown_by p b input_elements) in
-            let m : count_in a.info.output_elements ≡ count_shown (shown_by p b output_elements) =
-            ap (λ (z : InfoAnswer). count_in z.info.output_elements) ha ∙ field_count (shown_by p b output_elements) in
-            let c : count_in a.info.patch_elements ≡ count_shown (shown_by p b patch_elements) =
-            ap (λ (z : InfoAnswer). count_in z.info.patch_elements) ha ∙ field_count (shown_by p b patch_elements) in
-            let t = slice_is b x ∙ hx.bytes in
-            let u = slice_is b y ∙ hy.bytes in
-            let q : r ≡ first_difference d (names_by p b s) = er ∙ (λ j. first_difference d (list_of s (i j) (m j) (c j) (t j) (u j))) in
-            rw (← v, q)
+    module _ {x : Result Span Refusal} (hx : SectionBy p b StringTable x) where
+      pub no_table : {w : Result (Option ℕ) Refusal} {e : Refusal} → IsErr w × IsErrAnd w (λ (u : Refusal). u ≡ e) → x ≡ Err e
+          → w ≡ difference_if (needed_by p b) d (names_by p b s)
+      no_table hw h = refused_needed hw (unfold needed_by verdict_of in pass_then _ _ _ record_there (stop_then _ _ _ _ (sym hx.verdict ∙ ap verdict_of h)))
+
+      module _ {t : Span} (ex : x ≡ Ok t) where
+        table_there : (handed_by p b string_table).verdict ≡ Accepted
+        unfolding verdict_of
+        table_there = sym hx.verdict ∙ ap verdict_of ex
+
+        module _ {y : Result Span Refusal} (hy : SectionBy p b ElementRecords y) where
+          pub no_records : {w : Result (Option ℕ) Refusal} {e : Refusal} → IsErr w × IsErrAnd w (λ (u : Refusal). u ≡ e) → y ≡ Err e
+              → w ≡ difference_if (needed_by p b) d (names_by p b s)
+          no_records hw h =
+              refused_needed hw (unfold needed_by verdict_of in pass_then _ _ _ record_there (pass_then _ _ _ table_there (sym (ap verdict_of h) ∙ hy.verdict)))
+
+          pub all_there : {c : Span} → y ≡ Ok c → {r : Option ℕ}
+              → r ≡ first_difference d (list_of s (count_in i.input_elements) (count_in i.output_elements) (count_in i.patch_elements)
+              (take (t.start + t.len - t.start) (drop t.start b)) (take (c.start + c.len - c.start) (drop c.start b)))
+              → Ok r ≡ difference_if (needed_by p b) d (names_by p b s)
+          unfolding names_by info_of
+          all_there {c} ey {r} er =
+              let v : Accepted ≡ needed_by p b =
+              unfold needed_by verdict_of in pass_then _ _ _ record_there (pass_then _ _ _ table_there (sym (ap verdict_of ey) ∙ hy.verdict)) in
+              let n : count_in i.input_elements ≡ count_shown (shown_by p b input_elements) =
+              ap (λ (z : RuntimeInfo). count_in z.input_elements) info_is ∙ field_count (shown_by p b input_elements) in
+              let m : count_in i.output_elements ≡ count_shown (shown_by p b output_elements) =
+              ap (λ (z : RuntimeInfo). count_in z.output_elements) info_is ∙ field_count (shown_by p b output_elements) in
+              let l : count_in i.patch_elements ≡ count_shown (shown_by p b patch_elements) =
+              ap (λ (z : RuntimeInfo). count_in z.patch_elements) info_is ∙ field_count (shown_by p b patch_elements) in
+              let f = slice_is b t ∙ (hx.shown ex).bytes in
+              let g = slice_is b c ∙ (hy.shown ey).bytes in
+              let q : r ≡ first_difference d (names_by p b s) = er ∙ (λ j. first_difference d (list_of s (n j) (m j) (l j) (f j) (g j))) in
+              ap Ok q ∙ accepts _ _ v
 
 -- ---- and before that the data: g is what was read of them
-module _ (p : SectionPlaces) (b d : List ℕ) (s : SignaturePart) {g : Signature} (hg : g ≡ signature_of d) where
-  judged_is : g.verdict ≡ signature_judged d
-  unfolding signature_of
-  judged_is = ap (λ (q : Signature). q.verdict) hg
+module _ (p : SectionPlaces) (b d : List ℕ) (s : SignaturePart) {g : Result ℕ Refusal} (hg : g ≡ signature_of d) where
+  pub data_refused : {w : Result (Option ℕ) Refusal} {e : Refusal} → IsErr w × IsErrAnd w (λ (u : Refusal). u ≡ e) → g ≡ Err e
+      → w ≡ difference_by p b s d
+  unfolding difference_by signature_of
+  data_refused {e = e} hw h = refuses _ _ (passed_err _ hw) (stop_then _ _ _ _ (refused_by _ _ hg h))
 
-  pub data_refused : {n q : ℕ} → g.verdict ≡ Refused n q → record { verdict = Refused n q; first = Nothing } ≡ difference_by p b s d
-  unfolding difference_by ◌then◌
-  data_refused e = let j = sym judged_is ∙ e in rw j
-
-  module _ (e : g.verdict ≡ Accepted) where
+  module _ {n : ℕ} (e : g ≡ Ok n) where
     pub data_judged_lem : signature_judged d ≡ Accepted
-    data_judged_lem = sym judged_is ∙ e
+    unfolding signature_of
+    data_judged_lem = accepted_by _ _ hg e
 
-    pub data_passed : {x : DifferenceReport} → x ≡ difference_if (needed_by p b) d (names_by p b s) → x ≡ difference_by p b s d
+    pub data_passed : {x : Result (Option ℕ) Refusal} → x ≡ difference_if (needed_by p b) d (names_by p b s) → x ≡ difference_by p b s d
     unfolding difference_by ◌then◌
     data_passed q = q ∙ rw data_judged_lem
 
 -- ---- "For the bytes it was made from, each answer equals the fresh one"
 module _ (k : ℕ) (b : List ℕ) (o : container_judged k b ≡ Accepted) where
   needed_fresh : needed_by (container_places k b) b ≡ Accepted
-  unfolding needed_by info_answer_of ◌then◌
+  unfolding needed_by info_answer_of ◌then◌ verdict_of under
   needed_fresh = rw (info_fresh k b o, hands_fresh k b o string_table, hands_fresh k b o element_records, o)
 
   shown_fresh : (q : Question) → shown_by (container_places k b) b q ≡ container_answered k b q
@@ -162,21 +170,22 @@ module _ (k : ℕ) (b : List ℕ) (o : container_judged k b ≡ Accepted) where
       unfold ◌then◌ check in rw t in
       fresh_by s (there ∙ sym (reported_open signature_judged (part_name s) k b o))
 
--- r is the part that was asked for, p the record of the opening
-module _ (s : SignaturePart) (k : ℕ) (b : List ℕ) {r : Part} (hr : r ≡ container_part k b (part_name s)) where
-  pub part_no_difference : {n q : ℕ} → r.verdict ≡ Refused n q → record { verdict = Refused n q; first = Nothing } ≡ difference_of s k b
+-- r is what the query for the part answers, q the part, p the record of the opening
+module _ (s : SignaturePart) (k : ℕ) (b : List ℕ) {r : Result Part Refusal} (hr : r ≡ container_part k b (part_name s)) where
+  pub part_no_difference : {w : Result (Option ℕ) Refusal} {e : Refusal} → IsErr w × IsErrAnd w (λ (u : Refusal). u ≡ e) → r ≡ Err e
+      → w ≡ difference_of s k b
   unfolding difference_of signature_reported
-  part_no_difference e = rw (← no_report signature_judged k b (part_name s) hr e)
+  part_no_difference hw h = part_passed signature_judged k b (part_name s) hr _ hw h
 
-  module _ (h : r.verdict ≡ Accepted) where
-    pub part_inside : r.offset + 8 + r.size ≤ length b
+  module _ {q : Part} (h : r ≡ Ok q) where
+    pub part_inside : q.offset + 8 + q.size ≤ length b
     part_inside = part_fits k b (part_name s) 0 hr h
 
     pub part_opens : container_judged k b ≡ Accepted
     part_opens = opens k b (part_name s) 0 hr h
 
-    pub part_difference : {p : SectionPlaces} {x : DifferenceReport} → p ≡ container_places k b
-        → x ≡ difference_by p b s (take (r.offset + 8 + r.size - (r.offset + 8)) (drop (r.offset + 8) b)) → x ≡ difference_of s k b
-    part_difference e q =
+    pub part_difference : {p : SectionPlaces} {x : Result (Option ℕ) Refusal} → p ≡ container_places k b
+        → x ≡ difference_by p b s (take (q.offset + 8 + q.size - (q.offset + 8)) (drop (q.offset + 8) b)) → x ≡ difference_of s k b
+    part_difference e z =
         let j : signature_judged (signature_data s b) ≡ signature_reported s k b = unfold signature_reported in data_reported signature_judged k b (part_name s) hr h in
-        q ∙ rw (e, data_there k b (part_name s) hr h) (fresh_by k b part_opens s j)
+        z ∙ rw (e, data_there k b (part_name s) hr h) (fresh_by k b part_opens s j)

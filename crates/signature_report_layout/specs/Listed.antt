@@ -1,18 +1,17 @@
 -- A list of PSV0's elements as the report's code has it: the string table t, the records e of all elements, and of the list how many elements
 -- stand before it and how many it has.
+use Rattle.std.specs.Prelude.{None, Option, Some}
 use Rattle.std.specs.Prelude.{List, ℕ, ◌+◌, ◌*◌, ◌/◌, ltb, length}
 use Rattle.wire.specs.Number.{u32_at}
 use Rattle.psv0_layout.specs.Reference.{string_at}
 use Rattle.psv0_layout.specs.Shown.{Value, view, set_if}
-use Rattle.psv0_layout.specs.declared.Field.{Field}
-use Rattle.psv0_layout.specs.declared.Field.TheVariants.{Set, Unset}
 use Rattle.signature_report_layout.specs.Reported.{list_size, list_before}
 use Rattle.signature_report_layout.specs.declared.SignaturePart.{SignaturePart}
 
 -- a count as a field: none where it is unset
-abbrev pub count_in : Field → ℕ
-count_in (Set n) = n
-count_in Unset = 0
+abbrev pub count_in : Option ℕ → ℕ
+count_in (Some n) = n
+count_in None = 0
 
 -- the name of element i of the list, where records are w bytes apart
 unfoldable pub listed : List ℕ → List ℕ → ℕ → ℕ → ℕ → ℕ → Value

@@ -1,24 +1,20 @@
 -- The reports on a signature part s of a container b at edition k. Document 02, Ask 3: "Read ISG1, OSG1 and PSG1." The part is a parameter of all
 -- that follows: "One proof serves the three parts."
+use Rattle.std.specs.Prelude.{Option, Some, None, Result}
 use Rattle.std.specs.Prelude.{Bool, true, not, ◌&&◌, List, [], ◌∷◌, ℕ, ◌+◌, ltb, eqb, length}
 use Rattle.wire.specs.Number.{u32_at}
 use Rattle.wire.specs.Search.{first}
 use Rattle.wire.specs.Stretch.{same_bytes}
-use Rattle.wire.specs.Verdict.{◌then◌, check}
-use Rattle.wire.specs.declared.Verdict.{Verdict}
-use Rattle.wire.specs.declared.Verdict.TheVariants.{Accepted, Refused}
+use Rattle.wire.specs.Verdict.{◌then◌, check, under, Verdict}
+use Rattle.wire.specs.declared.Refusal.{Refusal}
 use Rattle.part_table_layout.specs.Lookup.{find, found_below}
-use Rattle.part_table_layout.specs.declared.Found.{Found}
-use Rattle.part_table_layout.specs.declared.Found.TheVariants.{Nothing}
 use Rattle.psv0_layout.specs.Reference.{string_at}
 use Rattle.psv0_layout.specs.Shown.{Value, unset, number, view, Question, input_elements, output_elements, patch_elements, element_string, set_if}
 use Rattle.container_layout.specs.Container.{start_found, container_answered}
 use Rattle.container_layout.specs.Report.{data_named, reported}
-use Rattle.signature_layout.specs.Signature.{count_of, name_offset_of, signature_judged, answer_if}
-use Rattle.signature_layout.specs.declared.Name.{Name}
-use Rattle.signature_layout.specs.declared.Name.TheVariants.{At, Unset}
+use Rattle.signature_layout.specs.Signature.{count_of, name_offset_of, signature_judged, element_shown}
+use Rattle.signature_layout.specs.declared.NameSpan.{NameSpan}
 use Rattle.signature_layout.specs.declared.SignatureAnswer.{SignatureAnswer}
-use Rattle.signature_report_layout.specs.declared.DifferenceReport.{DifferenceReport}
 use Rattle.signature_report_layout.specs.declared.SignaturePart.{SignaturePart}
 use Rattle.signature_report_layout.specs.declared.SignaturePart.TheVariants.{Input, Output, Patch}
 use Rattle.signature_report_layout.specs.declared.SignatureReport.{SignatureReport}
@@ -40,28 +36,26 @@ signature_start s b = start_found b (find b (part_name s))
 unfoldable pub signature_reported : SignaturePart → ℕ → List ℕ → Verdict
 signature_reported s k b = reported signature_judged (part_name s) k b
 
--- zeros beside a refusal
-abbrev pub report_if : Verdict → SignaturePart → List ℕ → SignatureReport
-report_if Accepted s b =
-    record { verdict = Accepted; count = count_of (signature_data s b); start = signature_start s b; len = length (signature_data s b) }
-report_if (Refused n p) s b = record { verdict = Refused n p; count = 0; start = 0; len = 0 }
+-- what is shown of a container whose data are accepted
+abbrev pub report_shown : SignaturePart → List ℕ → SignatureReport
+report_shown s b = record { count = count_of (signature_data s b); start = signature_start s b; len = length (signature_data s b) }
 
-unfoldable pub signature_report_of : SignaturePart → ℕ → List ℕ → SignatureReport
-signature_report_of s k b = report_if (signature_reported s k b) s b
+unfoldable pub signature_report_of : SignaturePart → ℕ → List ℕ → Result SignatureReport Refusal
+signature_report_of s k b = under (signature_reported s k b) (report_shown s b)
 
 -- element i of the part: 26 where there is none. Its name is a stretch of the container, not of the part
-abbrev pub moved_name : ℕ → Name → Name
-moved_name m (At s n c) = At (m + s) n c
-moved_name m Unset = Unset
+abbrev pub moved_name : ℕ → Option NameSpan → Option NameSpan
+moved_name m (Some x) = Some (record { start = m + x.start; len = x.len; points = x.points })
+moved_name m None = None
 
 abbrev pub moved : ℕ → SignatureAnswer → SignatureAnswer
-moved m a = record { verdict = a.verdict; element = a.element; name = moved_name m a.name }
+moved m a = record { element = a.element; name = moved_name m a.name }
 
 unfoldable pub element_reported : SignaturePart → ℕ → List ℕ → ℕ → Verdict
 element_reported s k b i = signature_reported s k b then check (ltb i (count_of (signature_data s b))) 26 0
 
-unfoldable pub element_report_of : SignaturePart → ℕ → List ℕ → ℕ → SignatureAnswer
-element_report_of s k b i = moved (signature_start s b) (answer_if (element_reported s k b i) (signature_data s b) i)
+unfoldable pub element_report_of : SignaturePart → ℕ → List ℕ → ℕ → Result SignatureAnswer Refusal
+element_report_of s k b i = under (element_reported s k b i) (moved (signature_start s b) (element_shown (signature_data s b) i))
 
 -- ---- the second report: "compares each named element with the PSV0 element of the same list and number"
 -- a is what is shown of each question on PSV0. A count that is unset, at edition read 0, is none
@@ -100,13 +94,12 @@ unfoldable pub differs_at : List ℕ → (ℕ → Value) → ℕ → Bool
 differs_at d names i = not (eqb (name_offset_of d i) 0) && differs (string_at d (name_offset_of d i)) (names i)
 
 -- "the number of the first whose name differs or is missing there, or none"
-unfoldable pub first_difference : List ℕ → (ℕ → Value) → Found
+unfoldable pub first_difference : List ℕ → (ℕ → Value) → Option ℕ
 first_difference d names = found_below (count_of d) (first (differs_at d names) (count_of d))
 
--- "after the same refusals"; nothing beside a refusal. d are the part's data, with the names that PSV0 has
-abbrev pub difference_if : Verdict → List ℕ → (ℕ → Value) → DifferenceReport
-difference_if Accepted d names = record { verdict = Accepted; first = first_difference d names }
-difference_if (Refused n p) d names = record { verdict = Refused n p; first = Nothing }
+-- "after the same refusals". d are the part's data, with the names that PSV0 has
+abbrev pub difference_if : Verdict → List ℕ → (ℕ → Value) → Result (Option ℕ) Refusal
+difference_if v d names = under v (first_difference d names)
 
-unfoldable pub difference_of : SignaturePart → ℕ → List ℕ → DifferenceReport
+unfoldable pub difference_of : SignaturePart → ℕ → List ℕ → Result (Option ℕ) Refusal
 difference_of s k b = difference_if (signature_reported s k b) (signature_data s b) (psv_name s (container_answered k b))

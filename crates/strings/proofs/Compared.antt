@@ -9,8 +9,11 @@ use native.Mathlib.Omega.{arith}
 use native.Mathlib.Numerals.{add-one}
 use native.Mathlib.Nat.{add-zero}
 use lib.Dec.{eqb, ltb}
-use lib.ListN.{length, get_or}
+use lib.ListN.{length, get_or, drop, length-drop}
 use borrow.Author.Tests.{eq-eqb, ne_eqb, eqb-true, eqb-false, ltb-true, ltb-false}
+use Rattle.std.specs.Prelude.{Option, Some, None, unwrap_or}
+use Rattle.memchr.specs.Find.{IsFirstByte, is_byte}
+use Rattle.std.proofs.lemmas.List.{get_or-drop}
 use Rattle.wire.specs.Stretch.{same_bytes}
 use Rattle.psv0_layout.specs.Position.{NoZero}
 use Rattle.psv0_layout.specs.Reference.{string_at}
@@ -70,3 +73,21 @@ pub string_length : (t : List ℕ) (o r : ℕ) → o ≤ r → NoZero t o r → 
 string_length t o r h f e =
     let q : o + (r - o) ≡ r = omega arith in
     string_runs t o (r - o) (rw q f) (rw q (⊎_elim (λ l. string_past t r (omega arith)) (λ z. z) e))
+
+-- from o on, the first zero byte of d stands at r, or there is none
+pub string_found : (t : List ℕ) (o : ℕ) → o < length t → {d : List ℕ} → d ≡ drop o t → (r : Option ℕ) → IsFirstByte (is_byte 0) d r
+    → unwrap_or r (length d) ≡ length (string_at t o)
+string_found t o h {d} q r f = go r f
+  where
+    l : length d ≡ length t - o
+    l = ap length q ∙ length-drop o t
+
+    byte : (k : ℕ) → get_or d k 0 ≡ get_or t (o + k) 0
+    byte k = ap (λ (x : List ℕ). get_or x k 0) q ∙ get_or-drop o t k 0
+
+    zero_there : (j : ℕ) → o ≤ j → get_or t j 0 ≡ 0 → eqb (get_or d (j - o) 0) 0 ≡ true
+    zero_there j a e = let i : o + (j - o) ≡ j = omega arith in eq-eqb _ _ (byte (j - o) ∙ rw i e)
+
+    go : (r : Option ℕ) → IsFirstByte (is_byte 0) d r → unwrap_or r (length d) ≡ length (string_at t o)
+    go None f = string_runs t o (length d) (λ j a b e. f (j - o) (omega arith) (omega arith) (zero_there j a e)) (string_past t _ (omega (arith, l)))
+    go (Some k) f = string_runs t o k (λ j a b e. f.0.before (j - o) (omega arith) (omega arith) (zero_there j a e)) (sym (byte k) ∙ eqb-true _ _ f.1)

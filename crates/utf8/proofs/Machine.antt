@@ -18,7 +18,7 @@ use Rattle.utf8_layout.proofs.Rows.{Row, none, rest, row_for, front_of, front_fo
 use Rattle.psv0_layout.specs.Reference.{has_zero, until_zero, string_ends, string_at, string_good}
 use Rattle.psv0_layout.proofs.References.{and_false}
 use Rattle.utf8.specs.Machine.{State, bad, between, one, two, three, after_e0, after_ed, after_f0, after_f4, done, rest_of, good_from, resumed, good_in, begin, onward, step, ran}
-use Rattle.utf8.specs.Rows.{rows_of}
+use Rattle.utf8.specs.declared.TheConstants.{ROWS}
 use Rattle.utf8.proofs.Table.{at}
 
 -- ---- strings as lists
@@ -154,8 +154,8 @@ row_test : ℕ → ℕ → Bool
 row_test a x = same_row (row_for table a) (row_of (begin a))
 
 row_byte : (a : ℕ) → a < 256 → row_for table a ≡ row_of (begin a)
-unfolding row_test same_row same_ranges row_of rows_of row_for table begin rest_of
-row_byte a h = same_row_lem (row_for table a) (row_of (begin a)) (at row_test rows_of refl a h)
+unfolding row_test same_row same_ranges row_of row_for table begin rest_of
+row_byte a h = same_row_lem (row_for table a) (row_of (begin a)) (at row_test ROWS refl a h)
 
 row_past : (a : ℕ) → 256 ≤ a → row_for table a ≡ row_of (begin a)
 unfolding row_of row_for table begin

@@ -1,11 +1,13 @@
 -- The flags of blocks and the marks that hold them.
 -- Assumes nothing.
-use Prim.Native.Nat.{ℕ, zero, suc, ◌+◌, ◌*◌, ◌/◌, ◌%◌, ◌^◌, ◌≤◌, ◌<◌}
+use Prim.Native.Nat.{ℕ, zero, suc, ◌+◌, ◌-◌, ◌*◌, ◌/◌, ◌%◌, ◌^◌, ◌≤◌, ◌<◌}
 use mathlib.Core.Path.{◌≡◌, refl, ◌∙◌}
 use mathlib.Core.Bool.{Bool, true, false}
 use mathlib.Core.List.{List}
 use native.Mathlib.Omega.{arith}
+use native.Mathlib.Nat.{pow-le-pow_right}
 use lib.Dec.{eqb}
+use mir.Val.{bool_byte}
 use lib.ListN.{length, get_or, set}
 use lib.Seq.{get_or-set_same, get_or-set_other}
 use borrow.Author.Tests.{eq-eqb, ne_eqb, eqb-true, eqb-false}
@@ -57,19 +59,46 @@ module _ (t : List ℕ) (p : ℕ) where
   unfolding mark_of
   mark_first m q = bit_test (flag t p) (m % 2) (omega (arith, near))
 
--- a mark of eight numbers that are the bits of flags
-pub mark_made : (t : List ℕ) (p : ℕ) {a b c d e f g h : ℕ} {q r s u v w x y : Bool}
-    → a ≡ bit q → q ≡ flag t p
-    → b ≡ bit r → r ≡ flag t (p + 32)
-    → c ≡ bit s → s ≡ flag t (p + 64)
-    → d ≡ bit u → u ≡ flag t (p + 96)
-    → e ≡ bit v → v ≡ flag t (p + 128)
-    → f ≡ bit w → w ≡ flag t (p + 160)
-    → g ≡ bit x → x ≡ flag t (p + 192)
-    → h ≡ bit y → y ≡ flag t (p + 224)
-    → a + b * 2 + c * 4 + d * 8 + e * 16 + f * 32 + g * 64 + h * 128 ≡ mark_of t p
-unfolding mark_of
-mark_made t p a q b r c s d u e v f w g x h y = rw (← q, ← r, ← s, ← u, ← v, ← w, ← x, ← y, a, b, c, d, e, f, g, h)
+byte_bit : (b : Bool) → bool_byte b ≡ bit b
+byte_bit true = refl
+byte_bit false = refl
+
+pub byte_small : (b : Bool) → bool_byte b ≤ 1
+byte_small true = omega arith
+byte_small false = omega arith
+
+-- the flags of n blocks from block k on, as a loop that goes down puts them together
+unfoldable pub upper : List ℕ → ℕ → ℕ → ℕ → ℕ
+upper t p zero k = 0
+upper t p (suc n) k = upper t p n (suc k) * 2 + bit (flag t (p + 32 * k))
+
+module _ (t : List ℕ) (p : ℕ) where
+  pub upper_small : (n k : ℕ) → upper t p n k < 2 ^ n
+  unfolding upper
+  upper_small zero k = omega arith
+  upper_small (suc n) k =
+      let h = upper_small n (suc k) in
+      let b = bit_small (flag t (p + 32 * k)) in
+      let e : 2 ^ suc n ≡ 2 ^ n * 2 = omega arith in
+      omega arith
+
+  -- one block more in front of fewer than eight
+  module _ (k m : ℕ) (h : 0 < k) (e : m ≡ upper t p (8 - k) k) (l : k ≤ 8) where
+    pub upper_half : m < 128
+    upper_half =
+        let w : 8 - k ≤ 7 = omega arith in
+        let q : 2 ^ (8 - k) ≤ 2 ^ 7 = pow-le-pow_right {n = 2} (omega arith) w in omega (arith, upper_small (8 - k) k)
+
+    pub upper_next : (f : Bool) → f ≡ flag t (p + 32 * (k - 1)) → m * 2 + bool_byte f ≡ upper t p (8 - (k - 1)) (k - 1)
+    unfolding upper
+    upper_next f q =
+        let a : 8 - (k - 1) ≡ suc (8 - k) = omega arith in
+        let b : suc (k - 1) ≡ k = omega arith in
+        rw (a, b, ← e, ← q, byte_bit)
+
+  pub upper_all : upper t p 8 0 ≡ mark_of t p
+  unfolding upper mark_of
+  upper_all = let z : p + 32 * 0 ≡ p = omega arith in rw z (omega arith)
 
 -- ---- marks
 -- what a mark's flag is, where the marks are right

@@ -2,14 +2,15 @@
 -- Assumes nothing.
 use Prim.Native.Nat.{ℕ, ◌+◌, ◌/◌, ◌≤◌, ◌<◌, max}
 use mathlib.Core.Path.{◌≡◌, refl, sym, ◌∙◌}
-use mathlib.Core.Bool.{Bool, true, false}
+use mathlib.Core.Bool.{Bool, true, false, not}
 use mathlib.Core.List.{List}
 use native.Mathlib.Omega.{arith}
 use native.Mathlib.Numerals.{add-one}
-use lib.Dec.{ltb}
+use lib.Dec.{ltb, eqb}
+use mir.Val.{bool_byte}
 use lib.ListN.{length, get_or, drop}
 use lib.Seq.{drop-cons, drop-length}
-use borrow.Author.Tests.{ltb-true, ltb-false}
+use borrow.Author.Tests.{ltb-true, ltb-false, eqb-true, eqb-false}
 use Rattle.wire.specs.Choice.{choose}
 use Rattle.psv0_layout.specs.Position.{PlainFrom}
 use Rattle.utf8_layout.specs.Lead.{follows, lead, leads}
@@ -53,6 +54,13 @@ lead_one x h = go (ltb x 128) refl
     go : (s : Bool) → ltb x 128 ≡ s → ◌≡◌ {A = ℕ} (choose (follows x) 0 1) 1
     go true e = let l = ltb-true x 128 e in rw (below 0x80 0xBF x l)
     go false e = let l = ltb-false x 128 e in rw (above 0x80 0xBF x (omega arith) (omega arith))
+
+pub lead_byte : (x : ℕ) → bool_byte (not (eqb (x / 64) 2)) ≡ lead x
+lead_byte x = go (eqb (x / 64) 2) refl
+  where
+    go : (s : Bool) → eqb (x / 64) 2 ≡ s → bool_byte (not s) ≡ lead x
+    go true e = sym (lead_none x (eqb-true (x / 64) 2 e))
+    go false e = sym (lead_one x (eqb-false (x / 64) 2 e))
 
 -- a count n of the bytes in front of i, and what the rest adds
 abbrev pub Counted : List ℕ → ℕ → ℕ → Type 0

@@ -2,4 +2,3 @@ pub mod Machine
 pub mod Marks
 pub mod One
 pub mod Referred
-pub mod Rows

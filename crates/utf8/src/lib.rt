@@ -8,28 +8,19 @@ ghost use Rattle.utf8_layout.specs.Sequence.{well_formed, code_points};
 ghost use Rattle.psv0_layout.specs.Position.{PlainFrom};
 ghost use Rattle.psv0_layout.specs.Reference.{string_good};
 ghost use Rattle.utf8.specs.Machine.{State, ran};
-ghost use Rattle.utf8.specs.Marks.{past_at, flag, bit, mark_of, Marked};
+ghost use Rattle.utf8.specs.Marks.{past_at, flag, mark_of, Marked};
 ghost use Rattle.utf8.specs.One.{Letters, read_of};
 ghost use Rattle.utf8.specs.Referred.{passes, first_ill};
-ghost use Rattle.utf8.specs.Rows.{rows_of};
 
 // ---- bytes below 0x80
-fn greater(a: u8, b: u8) -> u8
-    ensures { result ≡ max a b }
-{
-    if a < b { b } else { a }
-}
-
 // Whether every byte from a place on is below 0x80: then each string there that ends is well formed. All are looked at: with no way out of the
 // loop, many are compared at once when compiled.
 pub fn plain_from(t: &[u8], from: usize) -> bool
     ensures { (result ≡ true → PlainFrom t.now from) × (PlainFrom t.now from → result ≡ true) }
 {
-    let mut most = 0;
-    let mut i = from;
-    while i < t.len() {
-        most = greater(most, t[i]);
-        i += 1;
+    let mut most = 0u8;
+    for i in from..t.len() {
+        most = most.max(t[i]);
     }
     most < 128
 }
@@ -39,10 +30,7 @@ pub fn plain_from(t: &[u8], from: usize) -> bool
 fn lead(x: u8) -> usize
     ensures { (result ≡ lead x) × (result ≤ 1) }
 {
-    if x / 64 == 2 {
-        return 0;
-    }
-    1
+    usize::from(x / 64 != 2)
 }
 
 // The code points of a well-formed string: its bytes that do not follow a lead byte.
@@ -50,17 +38,15 @@ pub fn code_points(s: &[u8]) -> usize
     ensures { (result ≡ leads s.now) × (result ≤ length s.now) × (well_formed s.now ≡ true → result ≡ code_points s.now) }
 {
     let mut n = 0;
-    let mut i = 0;
-    while i < s.len() {
-        n += lead(s[i]);
-        i += 1;
+    for x in s {
+        n += lead(*x);
     }
     n
 }
 
 // ---- the machine
 // Of each byte a word with six bits for each state: the state after that byte. A step is a shift, so its time does not depend on the bytes.
-const ROWS: [u64; 256] = [
+static ROWS: [u64; 256] = [
     972777519512030592,
     972777519512027520,
     972777519512027520,
@@ -320,16 +306,13 @@ const ROWS: [u64; 256] = [
 ];
 
 // The state after the bytes from one place up to another.
-fn run(rows: &[u64; 256], t: &[u8], from: usize, to: usize, state: u64) -> u64
-    requires { (rows.now ≡ rows_of) × (from ≤ to) × (to ≤ length t.now) × State state }
+fn run(t: &[u8], from: usize, to: usize, state: u64) -> u64
+    requires { (from ≤ to) × (to ≤ length t.now) × State state }
     ensures { (result ≡ ran t.now from (to - from) state) × State result }
 {
     let mut s = state;
-    let mut p = from;
-    while p < to {
-        let b = t[p] as usize;
-        s = (rows[b] >> s) % 64;
-        p += 1;
+    for p in from..to {
+        s = (ROWS[t[p] as usize] >> s) % 64;
     }
     s
 }
@@ -342,6 +325,7 @@ fn follows_at(t: &[u8], p: usize) -> bool
 }
 
 // Past at most three bytes that follow a lead byte.
+// Stays: three tests in a row: as a loop over p..p + 3 they compile to a loop, and judging a short name takes 25 ns in place of 20.
 fn past(t: &[u8], p: usize) -> usize
     requires { p ≤ length t.now }
     ensures { (result ≡ past_at t.now p) × (p ≤ result) × (result ≤ p + 3) × (result ≤ length t.now) }
@@ -359,12 +343,12 @@ fn past(t: &[u8], p: usize) -> usize
 }
 
 // Whether the reference o is good, where it is known of a place from it on whether a string that goes on there ends well.
-fn good_by(rows: &[u64; 256], t: &[u8], o: usize, to: usize, next: bool) -> bool
-    requires { (rows.now ≡ rows_of) × (o ≤ to) × (to ≤ length t.now) × (next ≡ flag t.now to) }
+fn good_by(t: &[u8], o: usize, to: usize, next: bool) -> bool
+    requires { (o ≤ to) × (to ≤ length t.now) × (next ≡ flag t.now to) }
     ensures { result ≡ string_good t.now o }
 {
     let p = past(t, to);
-    let r = run(rows, t, o, p, 6);
+    let r = run(t, o, p, 6);
     if r == 6 {
         return next;
     }
@@ -372,17 +356,17 @@ fn good_by(rows: &[u64; 256], t: &[u8], o: usize, to: usize, next: bool) -> bool
 }
 
 // Whether the reference o is good, read up to the end of the table.
-fn good_to_end(rows: &[u64; 256], t: &[u8], o: usize) -> bool
-    requires { (rows.now ≡ rows_of) × (o ≤ length t.now) }
+fn good_to_end(t: &[u8], o: usize) -> bool
+    requires { o ≤ length t.now }
     ensures { result ≡ string_good t.now o }
 {
-    good_by(rows, t, o, t.len(), false)
+    good_by(t, o, t.len(), false)
 }
 
 // ---- marks
 // The flag of the block at a place, by that of the next block.
-fn flag_at(rows: &[u64; 256], t: &[u8], p: usize, next: bool) -> bool
-    requires { (rows.now ≡ rows_of) × (next ≡ flag t.now (p + 32)) }
+fn flag_at(t: &[u8], p: usize, next: bool) -> bool
+    requires { next ≡ flag t.now (p + 32) }
     ensures { result ≡ flag t.now p }
 {
     let len = t.len();
@@ -391,62 +375,44 @@ fn flag_at(rows: &[u64; 256], t: &[u8], p: usize, next: bool) -> bool
     }
     let o = past(t, p);
     if len - p < 32 {
-        return good_to_end(rows, t, o);
+        return good_to_end(t, o);
     }
-    good_by(rows, t, o, p + 32, next)
-}
-
-fn bit(b: bool) -> u8
-    ensures { (result ≡ bit b) × (result ≤ 1) }
-{
-    if b { 1 } else { 0 }
+    good_by(t, o, p + 32, next)
 }
 
 // The mark of the 256 bytes from a place on, by the flag of the block after them.
-fn mark_at(rows: &[u64; 256], t: &[u8], p: usize, next: bool) -> u8
-    requires { (rows.now ≡ rows_of) × (p < length t.now) × (next ≡ flag t.now (p + 256)) }
+fn mark_at(t: &[u8], p: usize, next: bool) -> u8
+    requires { (p < length t.now) × (next ≡ flag t.now (p + 256)) }
     ensures { result ≡ mark_of t.now p }
 {
-    let h = flag_at(rows, t, p + 224, next);
-    let g = flag_at(rows, t, p + 192, h);
-    let f = flag_at(rows, t, p + 160, g);
-    let e = flag_at(rows, t, p + 128, f);
-    let d = flag_at(rows, t, p + 96, e);
-    let c = flag_at(rows, t, p + 64, d);
-    let b = flag_at(rows, t, p + 32, c);
-    let a = flag_at(rows, t, p, b);
-    bit(a)
-        + bit(b) * 2
-        + bit(c) * 4
-        + bit(d) * 8
-        + bit(e) * 16
-        + bit(f) * 32
-        + bit(g) * 64
-        + bit(h) * 128
+    let mut mark = 0;
+    let mut flag = next;
+    for k in (0..8).rev() {
+        flag = flag_at(t, p + 32 * k, flag);
+        mark = mark * 2 + u8::from(flag);
+    }
+    mark
 }
 
 // The flag of a place, read up to the end of the table.
-fn flag_to_end(rows: &[u64; 256], t: &[u8], p: usize) -> bool
-    requires { rows.now ≡ rows_of }
+fn flag_to_end(t: &[u8], p: usize) -> bool
     ensures { result ≡ flag t.now p }
 {
     if t.len() <= p {
         return false;
     }
-    good_to_end(rows, t, past(t, p))
+    good_to_end(t, past(t, p))
 }
 
 // Fills in the marks of a table from its end down to a place, as many as there is room for.
-fn mark_all(rows: &[u64; 256], t: &[u8], from: usize, marks: &mut [u8])
-    requires { (rows.now ≡ rows_of) × (length marks.old ≤ 65536) }
+fn mark_all(t: &[u8], from: usize, marks: &mut [u8])
+    requires { length marks.old ≤ 65536 }
     ensures { (length marks.new ≡ length marks.old) × Marked t.now marks.new (from / 256) (min ((length t.now + 255) / 256) (length marks.new)) }
 {
-    let first = from / 256;
-    let mut j = wire::lesser((t.len() + 255) / 256, marks.len());
-    let mut next = flag_to_end(rows, t, j * 256);
-    while first < j {
-        j -= 1;
-        let m = mark_at(rows, t, j * 256, next);
+    let end = ((t.len() + 255) / 256).min(marks.len());
+    let mut next = flag_to_end(t, end * 256);
+    for j in (from / 256..end).rev() {
+        let m = mark_at(t, j * 256, next);
         marks[j] = m;
         next = m % 2 == 1;
     }
@@ -460,190 +426,111 @@ fn flag_of(mark: u8, k: usize) -> bool
     (mark >> k) % 2 == 1
 }
 
-// Whether the reference o is good: read up to the end of its block, where the next block's mark goes on.
-fn good_at(rows: &[u64; 256], t: &[u8], from: usize, marks: &[u8], o: usize) -> bool
-    requires { (rows.now ≡ rows_of) × Marked t.now marks.now (from / 256) (min ((length t.now + 255) / 256) (length marks.now)) }
-    ensures { result ≡ string_good t.now o }
-{
-    let len = t.len();
-    if len <= o {
-        return false;
-    }
-    let block = o / 32 + 1;
-    let to = block * 32;
-    let j = block / 8;
-    if len <= to {
-        return good_to_end(rows, t, o);
-    }
-    if o < from {
-        return good_to_end(rows, t, o);
-    }
-    if marks.len() <= j {
-        return good_to_end(rows, t, o);
-    }
-    let m = marks[j];
-    good_by(rows, t, o, to, flag_of(m, block % 8))
-}
-
 // ---- the references of records
-// Past a record, or the end where that is sooner.
-fn past_record(at: usize, stride: usize, len: usize) -> usize
-    requires { at ≤ len }
-    ensures { result ≡ min (at + stride) len }
-{
-    if stride < len - at {
-        return at + stride;
-    }
-    len
+// String references: each of the first is the first number of a record, the records some bytes apart, and past the records' count all are the
+// last. Where free is true, a reference of 0 refers to nothing and passes.
+#[derive(Clone, Copy)]
+pub struct References<'a> {
+    pub records: &'a [u8],
+    pub stride: usize,
+    pub count: usize,
+    pub last: usize,
+    pub len: usize,
+    pub free: bool,
 }
 
-fn passes(rows: &[u64; 256], t: &[u8], from: usize, marks: &[u8], free: bool, o: usize) -> bool
-    requires { (rows.now ≡ rows_of) × Marked t.now marks.now (from / 256) (min ((length t.now + 255) / 256) (length marks.now)) }
-    ensures { result ≡ passes t.now free o }
-{
-    if free {
-        if o == 0 {
+// A table whose marks are filled in from a place on, as many as there is room for.
+#[derive(Clone, Copy)]
+struct MarkedTable<'a> {
+    bytes: &'a [u8],
+    from: usize,
+    marks: &'a [u8],
+    ghost right: { Marked bytes.now marks.now (from / 256) (min ((length bytes.now + 255) / 256) (length marks.now)) },
+}
+
+impl<'a> MarkedTable<'a> {
+    // Whether the reference o is good: read up to the end of its block, where the next block's mark goes on.
+    fn good_at(&self, o: usize) -> bool
+        ensures { result ≡ string_good self.now.bytes.now o }
+    {
+        let t = self.bytes;
+        if t.len() <= o {
+            return false;
+        }
+        let block = o / 32 + 1;
+        let to = block * 32;
+        let j = block / 8;
+        if t.len() <= to || o < self.from || self.marks.len() <= j {
+            return good_to_end(t, o);
+        }
+        good_by(t, o, to, flag_of(self.marks[j], block % 8))
+    }
+
+    fn passes(&self, free: bool, o: usize) -> bool
+        ensures { result ≡ passes self.now.bytes.now free o }
+    {
+        if free && o == 0 {
             return true;
         }
+        self.good_at(o)
     }
-    good_at(rows, t, from, marks, o)
-}
 
-// The number of the first of n references that does not pass, or n.
-fn search(
-    rows: &[u64; 256],
-    t: &[u8],
-    from: usize,
-    marks: &[u8],
-    free: bool,
-    e: &[u8],
-    stride: usize,
-    count: usize,
-    last: usize,
-    n: usize,
-) -> usize
-    requires { (rows.now ≡ rows_of) × Marked t.now marks.now (from / 256) (min ((length t.now + 255) / 256) (length marks.now)) }
-    ensures { result ≡ first_ill t.now free e.now stride count last n }
-{
-    let len = e.len();
-    let mut i = 0;
-    let mut at = 0;
-    while i < n {
-        let o = if i < count {
-            wire::u32_at(e, at) as usize
-        } else {
-            last
-        };
-        if !passes(rows, t, from, marks, free, o) {
-            return i;
+    // The number of the first of the references that does not pass, or how many they are.
+    fn search(&self, r: &References) -> usize
+        ensures { result ≡ first_ill self.now.bytes.now r.now.free r.now.records.now r.now.stride r.now.count r.now.last r.now.len }
+    {
+        let mut at = 0;
+        for i in 0..r.len {
+            let o = if i < r.count {
+                wire::u32_at(r.records, at) as usize
+            } else {
+                r.last
+            };
+            if !self.passes(r.free, o) {
+                return i;
+            }
+            at = at.saturating_add(r.stride).min(r.records.len());
         }
-        i += 1;
-        at = past_record(at, stride, len);
+        r.len
     }
-    n
 }
 
-// The same, with room for the marks. Three sizes of it, each in a function of its own: 16 bytes for tables of up to 4,096, 1,024 for up to 262,144,
-// and 65,536 for up to 16,777,216.
-fn search_in(
-    t: &[u8],
-    from: usize,
-    marks: &mut [u8],
-    free: bool,
-    e: &[u8],
-    stride: usize,
-    count: usize,
-    last: usize,
-    n: usize,
-) -> usize
-    requires { length marks.old ≤ 65536 }
-    ensures { result ≡ first_ill t.now free e.now stride count last n }
+// The number of the first of the references that does not pass, or how many they are, with room for N marks, each of 256 bytes.
+fn search_in<const N: usize>(t: &[u8], from: usize, r: &References) -> usize
+    requires { N ≤ 65536 }
+    ensures { result ≡ first_ill t.now r.now.free r.now.records.now r.now.stride r.now.count r.now.last r.now.len }
 {
-    let rows = ROWS;
-    mark_all(&rows, t, from, &mut *marks);
-    search(&rows, t, from, &*marks, free, e, stride, count, last, n)
-}
-
-fn search_small(
-    t: &[u8],
-    from: usize,
-    free: bool,
-    e: &[u8],
-    stride: usize,
-    count: usize,
-    last: usize,
-    n: usize,
-) -> usize
-    ensures { result ≡ first_ill t.now free e.now stride count last n }
-{
-    let mut marks = [0u8; 16];
-    search_in(t, from, &mut marks, free, e, stride, count, last, n)
-}
-
-fn search_middle(
-    t: &[u8],
-    from: usize,
-    free: bool,
-    e: &[u8],
-    stride: usize,
-    count: usize,
-    last: usize,
-    n: usize,
-) -> usize
-    ensures { result ≡ first_ill t.now free e.now stride count last n }
-{
-    let mut marks = [0u8; 1024];
-    search_in(t, from, &mut marks, free, e, stride, count, last, n)
-}
-
-fn search_large(
-    t: &[u8],
-    from: usize,
-    free: bool,
-    e: &[u8],
-    stride: usize,
-    count: usize,
-    last: usize,
-    n: usize,
-) -> usize
-    ensures { result ≡ first_ill t.now free e.now stride count last n }
-{
-    let mut marks = [0u8; 65536];
-    search_in(t, from, &mut marks, free, e, stride, count, last, n)
-}
-
-// The number of the first of n string references that does not pass, or n: each is the first number of a record, the records some bytes apart in e,
-// and past their count all are the last. The table t is read once, and of each string no more than a block, however many refer into it: a table of
-// 16 MB has room for its marks. References below a place are right too, but may cost the whole table each. Where free is true, a reference of 0
-// refers to nothing and passes.
-pub fn first_ill(
-    t: &[u8],
-    from: usize,
-    free: bool,
-    e: &[u8],
-    stride: usize,
-    count: usize,
-    last: usize,
-    n: usize,
-) -> usize
-    ensures { result ≡ first_ill t.now free e.now stride count last n }
-{
-    let len = t.len();
-    if len <= 4096 {
-        return search_small(t, from, free, e, stride, count, last, n);
+    let mut marks = [0u8; N];
+    mark_all(t, from, &mut marks);
+    MarkedTable {
+        bytes: t,
+        from,
+        marks: &marks,
     }
-    if len <= 262144 {
-        return search_middle(t, from, free, e, stride, count, last, n);
+    .search(r)
+}
+
+// The same with room for the marks of all of a table of 16 MB. The table t is read once, and of each string no more than a
+// block, however many refer into it. References below a place are right too, but may cost the whole table
+// each.
+pub fn first_ill(t: &[u8], from: usize, r: &References) -> usize
+    ensures { result ≡ first_ill t.now r.now.free r.now.records.now r.now.stride r.now.count r.now.last r.now.len }
+{
+    if t.len() <= 4096 {
+        return search_in::<16>(t, from, r);
     }
-    search_large(t, from, free, e, stride, count, last, n)
+    if t.len() <= 262144 {
+        return search_in::<1024>(t, from, r);
+    }
+    search_in::<65536>(t, from, r)
 }
 
 // ---- one reference
-// The string at a reference: how many bytes and how many code points it has, or that the reference isn't good.
+// A string at a good reference: how many bytes and how many code points it has.
 #[derive(Clone, Copy)]
-pub enum StringRead {
-    Good(usize, usize),
-    Ill,
+pub struct StringRead {
+    pub len: usize,
+    pub points: usize,
 }
 
 // How far bytes below 0x80 other than zero go from one place on, at most up to another.
@@ -651,18 +538,12 @@ fn letters_end(t: &[u8], from: usize, to: usize) -> usize
     requires { (from ≤ to) × (to ≤ length t.now) }
     ensures { (from ≤ result) × (result ≤ to) × Letters t.now from result }
 {
-    let mut i = from;
-    while i < to {
-        let x = t[i];
-        if x == 0 {
+    for i in from..to {
+        if t[i] == 0 || 127 < t[i] {
             return i;
         }
-        if 127 < x {
-            return i;
-        }
-        i += 1;
     }
-    i
+    to
 }
 
 // Whether a reference is good, by the machine, where the zero byte that ends its string stands at a place.
@@ -670,44 +551,45 @@ fn ends_well(t: &[u8], o: usize, to: usize) -> bool
     requires { (o ≤ to) × (to < length t.now) × (get_or t.now to 0 ≡ 0) }
     ensures { result ≡ string_good t.now o }
 {
-    let rows = ROWS;
-    run(&rows, t, o, to + 1, 6) == 54
+    run(t, o, to + 1, 6) == 54
 }
 
 // A string of any length and letters: each walk over it looks at many bytes at once, but that of the machine.
-fn read_any(t: &[u8], o: usize) -> StringRead
+fn read_any(t: &[u8], o: usize) -> Option<StringRead>
     requires { o < length t.now }
     ensures { result ≡ read_of t.now o }
 {
-    let n = strings::len_at(t, o);
-    let to = o + n;
+    let len = strings::len_at(t, o);
+    let to = o + len;
     if t.len() <= to {
-        return StringRead::Ill;
+        return None;
     }
-    if plain_from(&t[o..to], 0) {
-        return StringRead::Good(n, n);
+    let s = &t[o..to];
+    if plain_from(s, 0) {
+        return Some(StringRead { len, points: len });
     }
     if ends_well(t, o, to) {
-        return StringRead::Good(n, code_points(&t[o..to]));
+        return Some(StringRead {
+            len,
+            points: code_points(s),
+        });
     }
-    StringRead::Ill
+    None
 }
 
-// The string at a reference, whatever the others are. Most are short and have letters below 0x80 alone: one walk tells where such a string ends, that
-// it is well formed and how many code points it has.
-pub fn read_string(t: &[u8], o: usize) -> StringRead
+// The string at a reference, whatever the others are, where the reference is good. Most are short and have letters below 0x80 alone: one walk tells
+// where such a string ends, that it is well formed and how many code points it has.
+pub fn read_string(t: &[u8], o: usize) -> Option<StringRead>
     ensures { result ≡ read_of t.now o }
 {
-    let len = t.len();
-    if len <= o {
-        return StringRead::Ill;
+    if t.len() <= o {
+        return None;
     }
-    let near = if len - o < 256 { len } else { o + 256 };
+    let near = if t.len() - o < 256 { t.len() } else { o + 256 };
     let i = letters_end(t, o, near);
-    if i < len {
-        if t[i] == 0 {
-            return StringRead::Good(i - o, i - o);
-        }
+    if i < t.len() && t[i] == 0 {
+        let len = i - o;
+        return Some(StringRead { len, points: len });
     }
     read_any(t, o)
 }
@@ -716,9 +598,5 @@ pub fn read_string(t: &[u8], o: usize) -> StringRead
 pub fn is_good(t: &[u8], o: usize) -> bool
     ensures { result ≡ string_good t.now o }
 {
-    let r = read_string(t, o);
-    match r {
-        StringRead::Good(_, _) => true,
-        StringRead::Ill => false,
-    }
+    read_string(t, o).is_some()
 }

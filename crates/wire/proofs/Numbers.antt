@@ -1,14 +1,14 @@
 -- Laws of little-endian numbers.
 -- Assumes nothing.
-use Prim.Native.Nat.{ℕ, suc, ◌+◌, ◌*◌, ◌/◌, ◌%◌, ◌<◌, ◌≤◌}
+use Prim.Native.Nat.{ℕ, ◌+◌, ◌*◌, ◌/◌, ◌%◌, ◌<◌, ◌≤◌}
 use mathlib.Core.Path.{◌≡◌, refl, sym, ◌∙◌, ap}
-use mathlib.Core.List.{List, [], ◌∷◌, ◌++◌, append_assoc}
-use lib.ListN.{length, get_or, take, drop, set, get_or-append, get_or-eq_default, length-drop, take-append-drop}
-use lib.Seq.{get_or-append-add, get_or-take, get_or-drop, drop-drop, sets, sets-eq, length-take-le, take_all}
+use mathlib.Core.List.{List, [], ◌∷◌, ◌++◌}
+use lib.ListN.{length, get_or, take, drop, get_or-append, get_or-eq_default, length-drop, take-append-drop}
+use lib.Seq.{get_or-append-add, get_or-take, get_or-drop, drop-drop, length-take-le, take_all}
 use native.Mathlib.Nat.{add_assoc, add-zero}
-use native.Mathlib.Numerals.{add-one}
 use native.Mathlib.Omega.{arith}
 use borrow.Author.Tests.{le-leb, lt-leb}
+use Rattle.std.specs.Int.{to_le_bytes, w16, w32}
 use Rattle.wire.specs.Number.{u16_at, u32_at, le16, le32, placed, Bytes}
 
 pub le32_length : (n : ℕ) → length (le32 n) ≡ 4
@@ -18,6 +18,18 @@ le32_length n = refl
 pub le16_length : (n : ℕ) → length (le16 n) ≡ 2
 unfolding le16
 le16_length n = refl
+
+-- the library's bytes of a number, the lowest first
+pub le16_bytes : (n : ℕ) → to_le_bytes w16 n ≡ le16 n
+unfolding le16
+le16_bytes n = refl
+
+pub le32_bytes : (n : ℕ) → to_le_bytes w32 n ≡ le32 n
+unfolding le32
+le32_bytes n =
+    let e : n / 65536 ≡ n / 256 / 256 = omega arith in
+    let f : n / 16777216 ≡ n / 256 / 256 / 256 = omega arith in
+    rw (e, f)
 
 -- the number of a number's bytes
 pub u32_le32 : (n : ℕ) (l : List ℕ) → n < 4294967296 → u32_at (le32 n ++ l) 0 ≡ n
@@ -127,24 +139,6 @@ module _ (l : List ℕ) (at : ℕ) where
   pub placed_out : (v : List ℕ) (n : ℕ) → length v ≡ n → length l < at + n → l ≡ placed l at v
   unfolding placed
   placed_out v n e h = let h' : length l < at + length v = omega arith in simp (lt-leb _ _ h')
-
-  -- stores one after the other
-  stored : (v : List ℕ) → at + length v ≤ length l → sets l at v ≡ placed l at v
-  stored v h = sets-eq v l at h ∙ append_assoc (take at l) v _ ∙ sym (placed_in v h)
-
-  pub put_two : (n : ℕ) → at + 2 ≤ length l → set (set l at (n % 256)) (at + 1) (n / 256 % 256) ≡ placed l at (le16 n)
-  unfolding le16
-  put_two n h = rw add-one (stored (le16 n) h)
-
-  pub put_four : (n : ℕ) → at + 4 ≤ length l
-      → set (set (set (set l at (n % 256)) (at + 1) (n / 256 % 256)) (at + 2) (n / 256 / 256 % 256)) (at + 3) (n / 256 / 256 / 256 % 256)
-      ≡ placed l at (le32 n)
-  unfolding le32
-  put_four n h =
-      let e1 : at + 1 ≡ suc at = omega arith in
-      let e2 : at + 2 ≡ suc (suc at) = omega arith in
-      let e3 : at + 3 ≡ suc (suc (suc at)) = omega arith in
-      rw (e1, e2, e3) (stored (le32 n) h)
 
   -- what was put is read
   pub read_of_written : (n : ℕ) → n < 4294967296 → at + 4 ≤ length l → u32_at (placed l at (le32 n)) at ≡ n

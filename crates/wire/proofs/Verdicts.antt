@@ -1,7 +1,7 @@
 -- Laws of verdicts: what an accepting row of checks tells, when there is one, and when two rows agree.
 -- Assumes nothing.
 use Prim.Native.Nat.{ℕ, zero, suc, ◌≤◌, ◌<◌}
-use mathlib.Core.Path.{◌≡◌, refl, sym, ◌∙◌, ap₂}
+use mathlib.Core.Path.{◌≡◌, refl, sym, ◌∙◌, ap, ap₂}
 use mathlib.Core.Bool.{Bool, true, false, ◌&&◌, true≢false}
 use mathlib.Core.Logic.{◌⊎◌, inl, inr, ⊎_elim}
 use native.Mathlib.Omega.{arith}
@@ -9,9 +9,9 @@ use native.Mathlib.Nat.{le_trans, le_of_suc-le-suc, eq-or-lt_of_le}
 use native.Mathlib.Decide.{le_ind}
 use lib.Dec.{leb}
 use borrow.Author.Tests.{le-leb, leb-true}
-use Rattle.wire.specs.Verdict.{◌then◌, check, when, from, each}
-use Rattle.wire.specs.declared.Verdict.{Verdict}
-use Rattle.wire.specs.declared.Verdict.TheVariants.{Accepted, Refused}
+use Rattle.std.specs.Prelude.{Result, Ok, Err, IsErr, IsErrAnd}
+use Rattle.wire.specs.Verdict.{◌then◌, check, when, from, each, under, verdict_of, Verdict, Accepted, Refused}
+use Rattle.wire.specs.declared.Refusal.{Refusal}
 
 infixl 20 ◌⊑◌
 -- w refuses wherever v does, with the same number and place
@@ -132,3 +132,53 @@ stop_then a b n p e = rw e
 pub pass_then : (a b v : Verdict) → a ≡ Accepted → v ≡ b → v ≡ (a then b)
 unfolding ◌then◌
 pass_then a b v e q = rw (e, q)
+
+-- ---- answers under a verdict
+module _ {A : Type 0} (v : Verdict) (x : A) where
+  verdict_under : verdict_of (under v x) ≡ v
+  unfolding under verdict_of
+  verdict_under = go v
+    where
+      go : (v : Verdict) → verdict_of (under v x) ≡ v
+      go Accepted = refl
+      go (Refused n p) = refl
+
+  -- an answer refuses or accepts where the verdict does
+  pub refuses : {w : Result A Refusal} {n p : ℕ} → w ≡ Err (record { number = n; place = p }) → Refused n p ≡ v → w ≡ under v x
+  unfolding under
+  refuses e h = e ∙ rw (← h)
+
+  pub accepts : Accepted ≡ v → Ok x ≡ under v x
+  unfolding under
+  accepts h = rw (← h)
+
+  -- what an answer tells of its verdict and of its value
+  module _ {w : Result A Refusal} (hw : w ≡ under v x) where
+    pub verdict_is : verdict_of w ≡ v
+    verdict_is = ap verdict_of hw ∙ verdict_under
+
+    pub refused_by : {r : Refusal} → w ≡ Err r → v ≡ Refused r.number r.place
+    unfolding verdict_of
+    refused_by e = sym verdict_is ∙ ap verdict_of e
+
+    pub accepted_by : {y : A} → w ≡ Ok y → v ≡ Accepted
+    unfolding verdict_of
+    accepted_by e = sym verdict_is ∙ ap verdict_of e
+
+    pub value_by : {y : A} → w ≡ Ok y → y ≡ x
+    unfolding under
+    value_by {y} e = let z : ◌≡◌ {A = Result A Refusal} (Ok y) (Ok x) = sym e ∙ hw ∙ rw (accepted_by e) in cc
+
+-- the same refusal as an answer of another type, which is what `?` returns
+pub passed_on : {A : Type 0} (v : Verdict) (x : A) {w : Result A Refusal} → w ≡ under v x → {B : Type 0} (y : B) {r : Refusal} {q : Result B Refusal} → IsErr q × IsErrAnd q (λ (s : Refusal). s ≡ r) → w ≡ Err r → q ≡ under v y
+passed_on v x hw {B} y {r} {q} h e = go q h.1
+  where
+    go : (q : Result B Refusal) → IsErrAnd q (λ (s : Refusal). s ≡ r) → q ≡ under v y
+    go (Ok z) k = absurd k
+    go (Err s) k = refuses v y (ap Err k) (sym (refused_by v x hw e))
+
+-- an answer without a value, from its verdict
+pub under_verdict : (w : Result Unit Refusal) → under (verdict_of w) tt ≡ w
+unfolding under verdict_of
+under_verdict (Ok u) = refl
+under_verdict (Err r) = refl

@@ -1,7 +1,11 @@
 -- The verdict of checks in a row: the first that fails gives the refusal's number and place.
-use Rattle.std.specs.Prelude.{Bool, true, false, ℕ, zero, suc, leb}
-use Rattle.wire.specs.declared.Verdict.{Verdict}
-use Rattle.wire.specs.declared.Verdict.TheVariants.{Accepted, Refused}
+use Rattle.std.specs.Prelude.{Bool, true, false, ℕ, zero, suc, leb, Result, Ok, Err}
+use Rattle.wire.specs.declared.Refusal.{Refusal}
+
+-- what checks in a row say: accepted, or refused with a number of the table of refusals and a place
+pub data Verdict : Type 0 where
+  Accepted : Verdict
+  Refused : ℕ → ℕ → Verdict
 
 infixr 40 ◌then◌
 -- the first verdict, and where it accepts, the second
@@ -36,3 +40,13 @@ number_of (Refused n p) = n
 abbrev pub place_of : Verdict → ℕ
 place_of Accepted = 0
 place_of (Refused n p) = p
+
+-- what a call answers under a verdict: x where it accepts, else the refusal's number and place alone
+unfoldable pub under : {A : Type 0} → Verdict → A → Result A Refusal
+under Accepted x = Ok x
+under (Refused n p) x = Err (record { number = n; place = p })
+
+-- the verdict of an answer
+unfoldable pub verdict_of : {A : Type 0} → Result A Refusal → Verdict
+verdict_of (Ok x) = Accepted
+verdict_of (Err r) = Refused r.number r.place

@@ -1,22 +1,24 @@
-// Little-endian numbers in byte slices, and the verdict that readers and writers answer.
+// Little-endian numbers in byte slices, and the refusal that readers and writers answer.
 // Every function takes any bytes and any place.
 #![tactic(auto)]
 
-ghost use Rattle.std.specs.Prelude.{◌≡◌, ◌+◌, ◌≤◌, ◌<◌, min, length, get_or};
+ghost use Rattle.std.specs.Prelude.{◌≡◌, ◌+◌, ◌≤◌, ◌<◌, length, get_or};
 ghost use Rattle.wire.specs.Number.{u16_at, u32_at, le16, le32, placed};
 ghost use Rattle.wire.specs.Stretch.{copied};
 
-// What checks in a row say: accepted, or refused with a number of document 01's table and a place.
-#[derive(Clone, Copy)]
-pub enum Verdict {
-    Accepted,
-    Refused(u8, usize),
+// A refusal: a number of document 01's table and a place.
+// Stays: the number is no enum, since the definitions (`check`, each `.._judged`), docs/REFUSALS.md and the figures' counts speak of it as a number.
+#[derive(Clone, Copy, Debug, PartialEq, Eq)]
+pub struct Refusal {
+    pub number: u8,
+    pub place: usize,
 }
 
-fn wide(x: u8) -> u32
-    ensures { (result ≡ x) × (result < 256) }
+// The refusal with a number and a place, whatever the call would have answered.
+pub fn refused<T>(number: u8, place: usize) -> Result<T, Refusal>
+    ensures { result ≡ Err (record { number = number; place = place }) }
 {
-    x as u32
+    Err(Refusal { number, place })
 }
 
 // The byte k after a place, 0 past the end. The sum at + k need not fit.
@@ -30,7 +32,7 @@ fn byte_after(b: &[u8], at: usize, k: usize) -> u32
     if len - at <= k {
         return 0;
     }
-    wide(b[at + k])
+    u32::from(b[at + k])
 }
 
 // The byte at a place, 0 past the end.
@@ -47,7 +49,7 @@ pub fn byte_at(b: &[u8], at: usize) -> u8
 pub fn u16_at(b: &[u8], at: usize) -> u32
     ensures { result ≡ u16_at b.now at }
 {
-    wide(byte_at(b, at)) + 256 * byte_after(b, at, 1)
+    u32::from(byte_at(b, at)) + 256 * byte_after(b, at, 1)
 }
 
 // The same of four bytes that are all there: one load when compiled.
@@ -55,13 +57,16 @@ fn whole_u32(b: &[u8], at: usize) -> u32
     requires { at + 4 ≤ length b.now }
     ensures { result ≡ u32_at b.now at }
 {
-    wide(b[at]) + 256 * wide(b[at + 1]) + 65536 * wide(b[at + 2]) + 16777216 * wide(b[at + 3])
+    u32::from(b[at])
+        + 256 * u32::from(b[at + 1])
+        + 65536 * u32::from(b[at + 2])
+        + 16777216 * u32::from(b[at + 3])
 }
 
 fn partial_u32(b: &[u8], at: usize) -> u32
     ensures { result ≡ u32_at b.now at }
 {
-    wide(byte_at(b, at))
+    u32::from(byte_at(b, at))
         + 256 * byte_after(b, at, 1)
         + 65536 * byte_after(b, at, 2)
         + 16777216 * byte_after(b, at, 3)
@@ -80,54 +85,12 @@ pub fn u32_at(b: &[u8], at: usize) -> u32
     partial_u32(b, at)
 }
 
-// Puts the two bytes of a number at a place. Where they do not fit, nothing changes.
-pub fn put_u16(out: &mut [u8], at: usize, n: u16)
-    ensures { out.new ≡ placed out.old at (le16 n) }
-{
-    let len = out.len();
-    if at < len {
-        if 2 <= len - at {
-            out[at] = (n % 256) as u8;
-            out[at + 1] = (n / 256 % 256) as u8;
-        }
-    }
-}
-
-// Puts the four bytes of a number at a place. Where they do not fit, nothing changes.
-pub fn put_u32(out: &mut [u8], at: usize, n: u32)
-    ensures { out.new ≡ placed out.old at (le32 n) }
-{
-    let len = out.len();
-    if at < len {
-        if 4 <= len - at {
-            out[at] = (n % 256) as u8;
-            out[at + 1] = (n / 256 % 256) as u8;
-            out[at + 2] = (n / 256 / 256 % 256) as u8;
-            out[at + 3] = (n / 256 / 256 / 256 % 256) as u8;
-        }
-    }
-}
-
-// The lesser of two numbers.
-pub fn lesser(a: usize, b: usize) -> usize
-    ensures { result ≡ min a b }
-{
-    if a < b { a } else { b }
-}
-
 // Copies src over the whole of out. Where they are not equally long, nothing changes.
 pub fn copy(out: &mut [u8], src: &[u8])
     ensures { out.new ≡ copied out.old src.now }
 {
-    let len = out.len();
-    let n = src.len();
-    if len != n {
-        return;
-    }
-    let mut i = 0;
-    while i < n {
-        out[i] = src[i];
-        i += 1;
+    if out.len() == src.len() {
+        out.copy_from_slice(src);
     }
 }
 
@@ -142,4 +105,18 @@ pub fn put(out: &mut [u8], at: usize, src: &[u8])
             copy(&mut out[at..at + n], src);
         }
     }
+}
+
+// Puts the two bytes of a number at a place. Where they do not fit, nothing changes.
+pub fn put_u16(out: &mut [u8], at: usize, n: u16)
+    ensures { out.new ≡ placed out.old at (le16 n) }
+{
+    put(out, at, &n.to_le_bytes());
+}
+
+// Puts the four bytes of a number at a place. Where they do not fit, nothing changes.
+pub fn put_u32(out: &mut [u8], at: usize, n: u32)
+    ensures { out.new ≡ placed out.old at (le32 n) }
+{
+    put(out, at, &n.to_le_bytes());
 }

@@ -9,19 +9,21 @@ use native.Mathlib.Omega.{arith}
 use lib.Dec.{leb}
 use lib.ListN.{length, drop, get_or, drop_of_length-le}
 use lib.Seq.{drop-cons}
-use borrow.Author.Tests.{lt-ltb, le-ltb, le-leb, lt-leb, leb-true, leb-false}
+use borrow.Author.Tests.{lt-ltb, le-ltb, leb-true, leb-false}
 use Rattle.wire.specs.Choice.{choose}
 use Rattle.words.specs.Word.{is_digit, named_from, named_of}
-use Rattle.words.specs.declared.Named.{Named}
-use Rattle.words.specs.declared.Named.TheVariants.{Number, Greater, Nothing}
+use Rattle.std.specs.Prelude.{Result, Ok, Err, OkIff}
+use Rattle.std.specs.Result.{result_or}
+use Rattle.words.specs.declared.WordError.{WordError}
+use Rattle.words.specs.declared.WordError.TheVariants.{Greater, NoNumber}
 
 -- from 4,294,967,296 on, which number it is doesn't matter
 large : (l : List ℕ) (m n : ℕ) → 4294967296 ≤ m → 4294967296 ≤ n → named_from m l ≡ named_from n l
 unfolding named_from
 large [] m n h g = rw (le-ltb m 4294967296 h, le-ltb n 4294967296 g)
-large (c ∷ l) m n h g = ap (λ (x : Named). choose (is_digit c) x Nothing) (large l (10 * m + (c - 48)) (10 * n + (c - 48)) (omega arith) (omega arith))
+large (c ∷ l) m n h g = ap (λ (x : Result ℕ WordError). choose (is_digit c) x (Err NoNumber)) (large l (10 * m + (c - 48)) (10 * n + (c - 48)) (omega arith) (omega arith))
 
-pub none_named : (s : List ℕ) → length s ≡ 0 → Nothing ≡ named_of s
+pub none_named : (s : List ℕ) → length s ≡ 0 → Err NoNumber ≡ named_of s
 unfolding named_of
 none_named [] h = refl
 none_named (c ∷ l) h = absurd (omega arith)
@@ -42,20 +44,16 @@ module _ (s : List ℕ) (n i : ℕ) (r : Reading s n i) where
     front : drop i s ≡ c ∷ drop (i + 1) s
     front = drop-cons s i 0 h ∙ rw (e, add-one i)
 
-    pub not_digit_low : c < 48 → Nothing ≡ named_of s
+    pub not_digit : is_digit c ≡ false → Err NoNumber ≡ named_of s
     unfolding named_from
-    not_digit_low g = rw (r.left, front, lt-leb 48 c g)
+    not_digit g = rw (r.left, front, g)
 
-    pub not_digit_high : 48 ≤ c → 57 < c → Nothing ≡ named_of s
+    digit : is_digit c ≡ true → named_of s ≡ named_from (10 * n + (c - 48)) (drop (i + 1) s)
     unfolding named_from
-    not_digit_high k g = rw (r.left, front, le-leb 48 c k, lt-leb c 57 g)
+    digit g = r.left ∙ rw (front, g)
 
-    digit : 48 ≤ c → c ≤ 57 → named_of s ≡ named_from (10 * n + (c - 48)) (drop (i + 1) s)
-    unfolding named_from
-    digit k g = r.left ∙ rw (front, le-leb 48 c k, le-leb c 57 g)
-
-    pub reading_more : 48 ≤ c → c ≤ 57 → {m : ℕ} → m ≡ min (10 * n + (c - 48)) 4294967296 → Reading s m (i + 1)
-    reading_more k g {m} q = record { within = omega arith; small = omega arith; left = digit k g ∙ go (leb (10 * n + (c - 48)) 4294967296) refl }
+    pub reading_more : is_digit c ≡ true → {m : ℕ} → m ≡ min (10 * n + (c - 48)) 4294967296 → Reading s m (i + 1)
+    reading_more g {m} q = record { within = omega arith; small = omega arith; left = digit g ∙ go (leb (10 * n + (c - 48)) 4294967296) refl }
       where
         go : (t : Bool) → leb (10 * n + (c - 48)) 4294967296 ≡ t → named_from (10 * n + (c - 48)) (drop (i + 1) s) ≡ named_from m (drop (i + 1) s)
         go true b =
@@ -70,10 +68,7 @@ module _ (s : List ℕ) (n i : ℕ) (r : Reading s n i) where
     over : named_of s ≡ named_from n []
     over = r.left ∙ ap (named_from n) (drop_of_length-le s {i = i} h)
 
-    pub is_number : n < 4294967296 → Number n ≡ named_of s
+    pub told : {E : Type 0} (t : Result ℕ E) → OkIff t (n < 4294967296) n → {x : Result ℕ WordError} → x ≡ result_or t (Err Greater) → x ≡ named_of s
     unfolding named_from
-    is_number g = rw (over, lt-ltb n 4294967296 g)
-
-    pub is_greater : 4294967296 ≤ n → Greater ≡ named_of s
-    unfolding named_from
-    is_greater g = rw (over, le-ltb n 4294967296 g)
+    told (Ok m) (g, q) e = e ∙ rw (over, lt-ltb n 4294967296 g, q)
+    told (Err m) g e = e ∙ rw (over, le-ltb n 4294967296 (omega arith))

@@ -4,41 +4,26 @@
 ghost use Rattle.std.specs.Prelude.{◌≡◌};
 ghost use Rattle.words.specs.Word.{named_of};
 
-// The number that a word names: decimal digits alone. One of 4,294,967,296 or more is only told as greater.
-#[derive(Clone, Copy)]
-pub enum Named {
-    Number(u32),
+// Why a word names no number below 4,294,967,296.
+#[derive(Clone, Copy, Debug, PartialEq, Eq)]
+pub enum WordError {
     Greater,
-    Nothing,
+    NoNumber,
 }
 
-fn wide(x: u8) -> usize
-    ensures { result ≡ x }
-{
-    x as usize
-}
-
-pub fn number_of(s: &[u8]) -> Named
+// The number that a word names: decimal digits alone, one at least. One of 4,294,967,296 or more is only told as greater.
+pub fn number_of(s: &[u8]) -> Result<u32, WordError>
     ensures { result ≡ named_of s.now }
 {
-    if s.len() == 0 {
-        return Named::Nothing;
+    if s.is_empty() {
+        return Err(WordError::NoNumber);
     }
-    let mut n: usize = 0;
-    let mut i = 0;
-    while i < s.len() {
-        let c = wide(s[i]);
-        if c < 48 {
-            return Named::Nothing;
+    let mut n: u64 = 0;
+    for c in s {
+        if !c.is_ascii_digit() {
+            return Err(WordError::NoNumber);
         }
-        if 57 < c {
-            return Named::Nothing;
-        }
-        n = wire::lesser(10 * n + (c - 48), 4294967296);
-        i += 1;
+        n = (10 * n + u64::from(c - b'0')).min(1 << 32);
     }
-    if n < 4294967296 {
-        return Named::Number(n as u32);
-    }
-    Named::Greater
+    u32::try_from(n).or(Err(WordError::Greater))
 }

@@ -1,11 +1,9 @@
-use Prim.Native.Nat.{◌+◌, ◌-◌, ◌*◌, ◌≤◌}
+use Prim.Native.Nat.{◌+◌, ◌*◌, ◌≤◌}
 use mathlib.Core.Path.{◌≡◌}
+use lib.ListN.{length}
 use Rattle.assembler_layout.specs.Assembled.{end_before}
 use Rattle.assembler_layout.specs.Answer.{sized}
 use Rattle.assembler.proofs.file_length.Given as goal
 
-abbrev pub invariant-loop-i : goal.invariant-loop-i
-invariant-loop-i l = (l.i ≤ l.n) × ((l.end ≡ end_before (sized l.sizes) l.i) × (l.end ≤ 32 + 4 * l.n + 4294967306 * l.i))
-
-abbrev pub decreases-loop-i : goal.decreases-loop-i
-decreases-loop-i l = l.n - l.i
+abbrev pub invariant-loop-size : goal.invariant-loop-size
+invariant-loop-size l = (l.end ≡ end_before (sized l.sizes) l.size-index) × (l.end ≤ 32 + 4 * length l.sizes + 4294967306 * l.size-index)

@@ -8,8 +8,8 @@ use Rattle.part_table_layout.proofs.Laid.{offsets_length}
 use Rattle.assembler_layout.proofs.Sections.{header_length, table_inside}
 use Rattle.assembler.proofs.write_front.Goals as goal
 
-pub overflow_cast-n : goal.overflow_cast-n
-overflow_cast-n c =
+pub overflow_cast-sizes : goal.overflow_cast-sizes
+overflow_cast-sizes c =
     let short = c.requires.1.1 in
     omega (arith, table_inside (sized c.args.sizes.now))
 

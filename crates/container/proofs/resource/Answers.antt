@@ -1,20 +1,23 @@
-use mathlib.Core.Path.{◌∙◌}
+use mathlib.Core.Path.{sym, ◌∙◌}
 use native.Mathlib.Omega.{arith}
-use Rattle.container.proofs.Queries.{order, inside, data_is, alone, no_resource}
+use Rattle.container.proofs.Queries.{within, data_is, alone, stops, queried_refused}
+use Rattle.psv0_layout.proofs.Spans.{passed_err}
 use Rattle.psv0_layout.specs.Answers.{resource_answer_of}
+use Rattle.wire.proofs.Verdicts.{refuses}
 use Rattle.container.proofs.resource.Goals as goal
 
 pub slice_bounds-resource-count : goal.slice_bounds-resource-count
-slice_bounds-resource-count c = omega (arith, order _ _ c.find_psv0-p.ensures c.in_default.is, inside _ _ c.find_psv0-p.ensures c.in_default.is)
+slice_bounds-resource-count c = omega (arith, within _ _ _ c.find_psv0.ensures c.in_ok-p.was)
 
 pub slice_bounds-resource-start : goal.slice_bounds-resource-start
-slice_bounds-resource-start c = omega (arith, order _ _ c.find_psv0-p.ensures c.in_default.is, inside _ _ c.find_psv0-p.ensures c.in_default.is)
+slice_bounds-resource-start c = omega (arith, within _ _ _ c.find_psv0.ensures c.in_ok-p.was)
 
 pub slice_bounds-resource-end : goal.slice_bounds-resource-end
-slice_bounds-resource-end c = omega (arith, order _ _ c.find_psv0-p.ensures c.in_default.is, inside _ _ c.find_psv0-p.ensures c.in_default.is)
+slice_bounds-resource-end c = omega (arith, within _ _ _ c.find_psv0.ensures c.in_ok-p.was)
 
-pub returns-in-Refused : goal.returns-in-Refused
-returns-in-Refused c = c.refused_resource.ensures ∙ no_resource _ _ c.find_psv0-p.ensures c.in-Refused.is _
+pub returns-in_err-p : goal.returns-in_err-p
+unfolding resource_answer_of
+returns-in_err-p c = refuses _ _ (passed_err _ c.from_residual.ensures) (queried_refused _ (sym (stops _ _ _ c.find_psv0.ensures c.in_err-p.was)))
 
 pub returns : goal.returns
-returns c = c.resource.ensures ∙ alone _ _ c.find_psv0-p.ensures c.in_default.is (λ o a. resource_answer_of o a c.args.i) (data_is _ _ c.find_psv0-p.ensures c.in_default.is)
+returns c = c.resource.ensures ∙ alone _ _ _ c.find_psv0.ensures c.in_ok-p.was (data_is _ _ _ c.find_psv0.ensures c.in_ok-p.was) (λ o a. resource_answer_of o a c.args.i)

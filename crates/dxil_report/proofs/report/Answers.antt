@@ -1,28 +1,33 @@
-use mathlib.Core.Path.{◌∙◌}
 use native.Mathlib.Omega.{arith}
 use Rattle.container_layout.proofs.Parts.{part_fits, part_short}
-use Rattle.dxil_report_layout.proofs.Steps.{part_refused, program_refused, bitcode_short, program_accepted}
+use Rattle.dxil_report_layout.proofs.Steps.{part_refused, program_refused, bitcode_short, info_refused, program_accepted}
 use Rattle.dxil_report.proofs.report.Goals as goal
 
-pub overflow_add-start : goal.overflow_add-start
-overflow_add-start c = omega (arith, part_short _ _ _ _ c.part-part.ensures c.in_default.is)
+pub returns-in_err-part : goal.returns-in_err-part
+returns-in_err-part c = part_refused _ _ c.part.ensures c.from_residual.ensures c.in_err-part.was
 
-pub overflow_add-end : goal.overflow_add-end
-overflow_add-end c = omega (arith, part_short _ _ _ _ c.part-part.ensures c.in_default.is)
+pub overflow_add-start : goal.overflow_add-start
+overflow_add-start c = omega (arith, part_short _ _ _ _ c.part.ensures c.in_ok-part.was)
+
+pub overflow_add-start-2 : goal.overflow_add-start-2
+overflow_add-start-2 c = omega (arith, part_short _ _ _ _ c.part.ensures c.in_ok-part.was)
 
 pub slice_bounds-read-end : goal.slice_bounds-read-end
-slice_bounds-read-end c = omega (arith, part_fits _ _ _ _ c.part-part.ensures c.in_default.is)
+slice_bounds-read-end c = omega (arith, part_fits _ _ _ _ c.part.ensures c.in_ok-part.was)
+
+pub returns-in_err-p : goal.returns-in_err-p
+returns-in_err-p c =
+    program_refused _ _ c.part.ensures c.in_ok-part.was c.read.ensures c.from_residual-in_err-p.ensures c.in_err-p.was
+
+pub returns-in_err-psv0_stage : goal.returns-in_err-psv0_stage
+returns-in_err-psv0_stage c =
+    info_refused _ _ c.part.ensures c.in_ok-part.was c.read.ensures c.in_ok-p.was c.runtime_info.ensures c.in_err-psv0_stage.was
 
 pub overflow_add-result : goal.overflow_add-result
-overflow_add-result c = omega (arith, bitcode_short _ _ c.part-part.ensures c.in_default.is c.read-p.ensures c.in_default-judged.is)
-
-pub returns-in-Refused : goal.returns-in-Refused
-returns-in-Refused c = c.refused.ensures ∙ part_refused _ _ c.part-part.ensures c.in-Refused.is
-
-pub returns-in-Refused-judged : goal.returns-in-Refused-judged
-returns-in-Refused-judged c = c.refused-in-Refused-judged.ensures ∙ program_refused _ _ c.part-part.ensures c.in_default.is c.read-p.ensures c.in-Refused-judged.is
+overflow_add-result c =
+    omega (arith, bitcode_short _ _ c.part.ensures c.in_ok-part.was c.read.ensures c.in_ok-p.was)
 
 pub returns : goal.returns
 returns c =
-    program_accepted _ _ c.part-part.ensures c.in_default.is c.read-p.ensures c.in_default-judged.is
-    c.runtime_info-a.ensures c.compared-stages.ensures
+    program_accepted _ _ c.part.ensures c.in_ok-part.was c.read.ensures c.in_ok-p.was c.runtime_info.ensures c.in_ok-psv0_stage.was
+    c.compared.ensures

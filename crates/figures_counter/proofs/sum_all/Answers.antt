@@ -1,38 +1,22 @@
-use mathlib.Core.Path.{◌≡◌, sym, ◌∙◌}
-use lib.ListN.{length}
+use mathlib.Core.Path.{◌∙◌}
+use native.Mathlib.Omega.{arith}
 use Rattle.figures_layout.specs.Figures.{summed}
-use borrow.Author.Rules.{rules}
+use Rattle.figures_counter.proofs.Sums.{capped}
 use Rattle.figures_counter.proofs.sum_all.Goals as goal
-
-pub add_counts-requires : goal.add_counts-requires
-add_counts-requires c =
-    let l : length c.args.f.refusals ≡ 28 = search rules in
-    let m : length c.args.g.refusals ≡ 28 = search rules in
-    l ∙ sym m
-
-pub add_counts-requires-2 : goal.add_counts-requires-2
-add_counts-requires-2 c =
-    let l : length c.args.f.editions ≡ 4 = search rules in
-    let m : length c.args.g.editions ≡ 4 = search rules in
-    l ∙ sym m
-
-pub add_counts-requires-3 : goal.add_counts-requires-3
-add_counts-requires-3 c =
-    let l : length c.args.f.stages ≡ 16 = search rules in
-    let m : length c.args.g.stages ≡ 16 = search rules in
-    l ∙ sym m
 
 pub returns : goal.returns
 unfolding summed
-returns c = λ i.
+returns c =
+    let cap = capped 65535 in
+    λ i.
     record {
       edition = c.args.f.edition;
-      bytes = c.sum_bytes.ensures i;
-      opened = c.sum.ensures i;
-      accepted = c.sum-2.ensures i;
-      refused = c.sum-3.ensures i;
-      refusals = c.add_counts.ensures i;
-      editions = c.add_counts-2.ensures i;
-      stages = c.add_counts-3.ensures i;
-      unset = c.sum-4.ensures i;
+      bytes = (c.saturating_add.ensures ∙ capped 18446744073709551615 _ _ (omega arith)) i;
+      opened = (c.saturating_add-2.ensures ∙ cap _ _ (omega arith)) i;
+      accepted = (c.saturating_add-3.ensures ∙ cap _ _ (omega arith)) i;
+      refused = (c.saturating_add-4.ensures ∙ cap _ _ (omega arith)) i;
+      refusals = c.sum_counts.ensures i;
+      editions = c.sum_counts-2.ensures i;
+      stages = c.sum_counts-3.ensures i;
+      unset = (c.saturating_add-5.ensures ∙ cap _ _ (omega arith)) i;
     }

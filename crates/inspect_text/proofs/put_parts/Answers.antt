@@ -1,42 +1,26 @@
-use mathlib.Core.Path.{◌∙◌, ap}
+use mathlib.Core.Path.{◌≡◌, ◌∙◌, ap}
+use mathlib.Core.List.{◌++◌}
 use native.Mathlib.Omega.{arith}
-use Rattle.lines.specs.Line.{line_of}
-use Rattle.inspect_text.proofs.Texts.{count_is, count_few, entry_line, none_listed, more_listed, all_listed}
+use Rattle.inspect_text.specs.Inspected.{part_lines}
+use Rattle.inspect_text.proofs.Texts.{count_is, count_few, entry_line, none_listed, more_listed}
 use Rattle.inspect_text.proofs.put_parts.Goals as goal
 
 pub loop-i-init : goal.loop-i-init
-loop-i-init c =
-    let p = c.requires in
-    let room = p.at_in_bounds in
-    (omega arith, (count_few _ p.b_value c.read-t.ensures, none_listed _ _ _ (omega arith)))
+loop-i-init c = (count_few _ c.requires.b_value c.read-t.ensures, none_listed _ _)
 
-pub put_line-end-requires : goal.put_line-end-requires
-put_line-end-requires c =
-    let l = c.loop-i in
-    let room = c.requires.at_in_bounds in
-    let long = l.invariant.1.1.long in
-    let ends = l.invariant.1.1.ends in
-    let short = l.invariant.1.1.short in
-    record {
-      at_in_bounds = omega arith;
-      len_bound = c.part-line.ensures.len_bound;
-      prefix_len = c.part-line.ensures.prefix_len;
-    }
+pub put-requires : goal.put-requires
+put-requires c =
+    let room = c.requires.len_bound in
+    let short = c.loop-i.invariant.1.short in
+    omega arith
 
 pub loop-i-preserved : goal.loop-i-preserved
 loop-i-preserved c =
-    let part = c.part-line.ensures in
-    let l = c.loop-i in
-    let room = c.requires.at_in_bounds in
-    let ends = l.invariant.1.1.ends in
-    let short = l.invariant.1.1.short in
-    let put = c.put_line-end.ensures in
-    let few = l.invariant.1.0 in
-    let line = part.value ∙ ap line_of (entry_line _ c.requires.b_value c.read-t.ensures l.i (omega arith)) in
-    (omega arith, (few, more_listed l.invariant.1.1 line part.len_bound put.out_after put.value (omega arith) (omega arith)))
+    let line = c.as_slice.ensures.value ∙ c.part-line.ensures ∙ entry_line _ c.requires.b_value c.read-t.ensures c.loop-i.i (omega arith) in
+    (c.loop-i.invariant.0, more_listed c.loop-i.invariant.1 line c.as_slice.ensures.fits c.put.ensures)
 
 pub returns : goal.returns
 returns c =
-    let l = c.loop-i in
-    let h = all_listed (count_is _ c.requires.b_value c.read-t.ensures) (omega arith) (omega arith) l.invariant.1.0 l.invariant.1.1 in
-    record { out_after = h.0; value = h.1.0; b_len_bound = h.1.1 }
+    let e = count_is _ c.requires.b_value c.read-t.ensures in
+    let q : c.loop-i.i ≡ c.read-t.result.count = omega arith in
+    c.loop-i.invariant.1.holds ∙ ap (λ n. c.args.text.now.items ++ part_lines c.args.b.now n) (q ∙ e)

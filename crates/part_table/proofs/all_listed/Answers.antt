@@ -6,7 +6,7 @@ returns-then-y-z c =
     let pre = c.requires in
     rw (all_listed _ _ pre.0 c.listed-first.ensures, all_listed _ _ pre.0 c.listed-second.ensures, ← c.if-y-z.true, pre.0)
 
-pub returns : goal.returns
-returns c =
+pub returns-else-y-z : goal.returns-else-y-z
+returns-else-y-z c =
     let pre = c.requires in
-    rw (all_listed _ _ pre.0 c.listed-first.ensures, all_listed _ _ pre.0 c.listed-second.ensures, all_listed _ _ pre.0 c.listed.ensures, pre.0)
+    rw (all_listed _ _ pre.0 c.listed-first.ensures, all_listed _ _ pre.0 c.listed-second.ensures, all_listed _ _ pre.0 c.listed-third.ensures, pre.0)

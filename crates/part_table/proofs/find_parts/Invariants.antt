@@ -1,4 +1,3 @@
-use Prim.Native.Nat.{◌-◌}
 use mathlib.Core.Path.{◌≡◌}
 use Rattle.part_table_layout.specs.Table.{name_at, filled}
 use Rattle.part_table_layout.proofs.Judged.{Walked}
@@ -6,6 +5,3 @@ use Rattle.part_table.proofs.find_parts.Given as goal
 
 abbrev pub invariant-loop-k : goal.invariant-loop-k
 invariant-loop-k l = Walked l.b l.count l.k l.end × (l.names ≡ filled (name_at l.b) l.k)
-
-abbrev pub decreases-loop-k : goal.decreases-loop-k
-decreases-loop-k l = l.count - l.k

@@ -1,13 +1,8 @@
-use Prim.Native.Nat.{◌≤◌, ◌-◌}
 use mathlib.Core.Path.{◌≡◌}
 use lib.ListN.{get_or}
-use Rattle.wire.specs.Verdict.{each}
-use Rattle.wire.specs.declared.Verdict.TheVariants.{Accepted}
+use Rattle.wire.specs.Verdict.{each, Accepted}
 use Rattle.part_table_layout.specs.Table.{name_judged}
 use Rattle.part_table.proofs.judge_names.Given as goal
 
 abbrev pub invariant-loop-i : goal.invariant-loop-i
-invariant-loop-i l = (l.i ≤ l.n) × (each (name_judged (λ k. get_or l.names k 0)) l.i ≡ Accepted)
-
-abbrev pub decreases-loop-i : goal.decreases-loop-i
-decreases-loop-i l = l.n - l.i
+invariant-loop-i l = each (name_judged (λ k. get_or l.names k 0)) l.i ≡ Accepted

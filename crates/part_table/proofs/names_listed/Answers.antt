@@ -1,16 +1,15 @@
 use mathlib.Core.Path.{refl}
-use borrow.Author.Rules.{rules}
 use Rattle.part_table_layout.proofs.Filled.{filled_all}
 use Rattle.part_table_layout.proofs.Judged.{offset_is, name_is}
 use Rattle.part_table_layout.proofs.Threes.{name_more}
 use Rattle.part_table.proofs.names_listed.Goals as goal
 
 pub loop-k-init : goal.loop-k-init
-loop-k-init c = (search rules, refl)
+loop-k-init c = refl
 
 pub loop-k-preserved : goal.loop-k-preserved
 loop-k-preserved c =
-    (search rules, name_more _ _ c.loop-k.invariant.1 (name_is _ _ (offset_is _ _ c.u32_at-at.ensures) c.u32_at.ensures))
+    name_more _ _ c.loop-k.invariant (name_is _ _ (offset_is _ _ c.u32_at-at.ensures) c.u32_at.ensures)
 
 pub returns : goal.returns
-returns c = filled_all _ c.loop-k.invariant.0 c.loop-k-test.false c.loop-k.invariant.1
+returns c = filled_all _ c.loop-k.auto.k-end c.loop-k-test.false c.loop-k.invariant

@@ -2,17 +2,17 @@ use native.Mathlib.Omega.{arith}
 use Rattle.part_table_layout.proofs.Lookups.{read_no_data, read_inside, read_data}
 use Rattle.part_table.proofs.part_data_occurrence.Goals as goal
 
-pub overflow_add-from : goal.overflow_add-from
-overflow_add-from c = omega (arith, read_inside _ _ _ c.find_part_occurrence-p.ensures c.in-Accepted.is)
+pub overflow_add-start : goal.overflow_add-start
+overflow_add-start c = omega (arith, read_inside _ _ _ c.find_part_occurrence.ensures c.in-Ok.is)
 
-pub overflow_add-to : goal.overflow_add-to
-overflow_add-to c = omega (arith, read_inside _ _ _ c.find_part_occurrence-p.ensures c.in-Accepted.is)
+pub overflow_add-result : goal.overflow_add-result
+overflow_add-result c = omega (arith, read_inside _ _ _ c.find_part_occurrence.ensures c.in-Ok.is)
 
-pub returns-in-Refused : goal.returns-in-Refused
-returns-in-Refused c = read_no_data _ _ _ c.find_part_occurrence-p.ensures c.in-Refused.is
+pub returns-in-Err : goal.returns-in-Err
+returns-in-Err c = read_no_data _ _ _ c.find_part_occurrence.ensures c.in-Err.is
 
-pub returns-in-Accepted : goal.returns-in-Accepted
-returns-in-Accepted c = read_data _ _ _ c.find_part_occurrence-p.ensures c.in-Accepted.is
+pub returns-in-Ok : goal.returns-in-Ok
+returns-in-Ok c = read_data _ _ _ c.find_part_occurrence.ensures c.in-Ok.is
 
-pub slice_bounds-result-end-in-Accepted : goal.slice_bounds-result-end-in-Accepted
-slice_bounds-result-end-in-Accepted c = omega (arith, read_inside _ _ _ c.find_part_occurrence-p.ensures c.in-Accepted.is)
+pub slice_bounds-result-end-in-Ok : goal.slice_bounds-result-end-in-Ok
+slice_bounds-result-end-in-Ok c = omega (arith, read_inside _ _ _ c.find_part_occurrence.ensures c.in-Ok.is)

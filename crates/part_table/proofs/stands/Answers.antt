@@ -1,17 +1,13 @@
-use borrow.Author.Rules.{rules}
 use Rattle.part_table_layout.proofs.Judged.{none_seen, hit, miss, all_seen}
 use Rattle.part_table.proofs.stands.Goals as goal
-use Rattle.part_table.proofs.stands.Goals.{then-names-i, else-names-i}
+use Rattle.part_table.proofs.stands.Goals.{then-name-x, else-name-x}
 
-pub loop-i-init : goal.loop-i-init
-loop-i-init c = (search rules, none_seen _ _)
+pub loop-name-init : goal.loop-name-init
+loop-name-init c = none_seen _ _
 
-pub loop-i-preserved : goal.loop-i-preserved
-loop-i-preserved c =
-    let inv = c.loop-i.invariant in (
-      search rules,
-      elim c.if-names-i.branch [ then-names-i w ↦ hit _ _ _ w.hit-is w.if-names-i.true | else-names-i w ↦ miss _ _ _ w.hit-is inv.1 w.if-names-i.false ],
-    )
+pub loop-name-preserved : goal.loop-name-preserved
+loop-name-preserved c =
+    elim c.if-name-x.branch [ then-name-x w ↦ hit _ _ _ w.hit-is w.if-name-x.true | else-name-x w ↦ miss _ _ _ w.hit-is c.loop-name.invariant w.if-name-x.false ]
 
 pub returns : goal.returns
-returns c = all_seen _ _ _ c.loop-i.invariant.0 c.loop-i-test.false c.loop-i.invariant.1
+returns c = all_seen _ _ _ c.loop-name.auto.name-index-end c.loop-name-test.false c.loop-name.invariant

@@ -1,20 +1,17 @@
-use Rattle.part_table_layout.proofs.Counting.{against_none, against_other, against_repeated, against_match, against_all}
+use mathlib.Core.Bool.{◌&&◌, not}
+use mathlib.Core.Path.{◌∙◌}
+use lib.Dec.{eqb}
+use Prim.Native.Nat.{ℕ}
+use borrow.Author.Rules.{rules}
+use Rattle.std.proofs.Common.{tests}
+use Rattle.std.proofs.lemmas.Iterator.{YieldsList-from_slice}
+use Rattle.std.proofs.lemmas.Iterator.Search.{position_from_yields_List}
+use Rattle.part_table_layout.proofs.Counting.{positioned, walk_is}
 use Rattle.part_table.proofs.walk.Goals as goal
-use Rattle.part_table.proofs.walk.Goals.{then-names-j+else-not-repeats, else-names-j}
-
-pub loop-j-init : goal.loop-j-init
-loop-j-init c = against_none _ _ _
-
-pub returns-then-not-repeats : goal.returns-then-not-repeats
-returns-then-not-repeats c =
-    against_match _ _ _ _ c.loop-j.invariant c.loop-j-test.true c.if-names-j.true c.may_repeat-repeats.ensures
-    c.if-not-repeats.true
-
-pub loop-j-preserved : goal.loop-j-preserved
-loop-j-preserved c =
-    let w = c.loop-j.invariant in
-    let less = c.loop-j-test.true in
-    elim c.if-names-j.branch [ then-names-j+else-not-repeats s ↦ against_repeated _ _ _ _ w less c.may_repeat-repeats.ensures s.if-not-repeats.false | else-names-j s ↦ against_other _ _ _ _ w less s.if-names-j.false ]
 
 pub returns : goal.returns
-returns c = against_all _ _ _ _ c.loop-j.invariant c.loop-j-test.false
+returns c =
+    let p = λ (y : ℕ). eqb y c.args.x && not c.may_repeat-repeats.result in
+    position_from_yields_List p _ _ _ c.position.ensures.ran (YieldsList-from_slice c.args.names.now cc) (λ x b q k. search (rules, tests))
+    ∙ positioned p c.args.names.now
+    ∙ walk_is _ _ c.may_repeat-repeats.ensures

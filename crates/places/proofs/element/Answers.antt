@@ -1,25 +1,18 @@
-use lib.ListN.{length}
+use Rattle.wire.proofs.Verdicts.{passed_on}
 use native.Mathlib.Omega.{arith}
-use mathlib.Core.Path.{sym, ◌∙◌}
-use mathlib.Core.Logic.{inl, inr}
-use Rattle.places_layout.proofs.Calls.{no_element_lem}
-use Rattle.places.proofs.Queries.{told, element_found, element_lost}
+use Rattle.places_layout.specs.Answers.{element_by}
+use Rattle.places.proofs.Queries.{element_long, element_found}
 use Rattle.places.proofs.element.Goals as goal
 
-pub returns-then-p-lt1 : goal.returns-then-p-lt1
-returns-then-p-lt1 c = c.refused_element.ensures ∙ no_element_lem _ _ _ (inl c.if-p-lt1.true)
+pub returns-in_err-at : goal.returns-in_err-at
+unfolding element_by
+returns-in_err-at c = passed_on _ _ c.element_place.ensures _ c.from_residual.ensures c.in_err-at.was
 
-pub returns-then-p-i : goal.returns-then-p-i
-returns-then-p-i c = c.refused_element-then-p-i.ensures ∙ no_element_lem _ _ _ (inr c.if-p-i.true)
-
-pub overflow_add-end : goal.overflow_add-end
-overflow_add-end c = omega (arith, told c.row_place-at.result (16) (length c.args.b.now) c.inside.ensures c.if-inside.true)
+pub overflow_add-at : goal.overflow_add-at
+overflow_add-at c = record { fits = omega (arith, element_long _ _ _ c.element_place.ensures c.in_ok-at.was) }
 
 pub slice_bounds-element_at-end : goal.slice_bounds-element_at-end
-slice_bounds-element_at-end c = told c.row_place-at.result (16) (length c.args.b.now) c.inside.ensures c.if-inside.true
-
-pub returns-then-inside : goal.returns-then-inside
-returns-then-inside c = element_found _ _ _ _ c.if-p-lt1.false c.if-p-i.false c.row_place-at.ensures _ (sym c.inside.ensures ∙ c.if-inside.true) c.element_at.ensures
+slice_bounds-element_at-end c = element_long _ _ _ c.element_place.ensures c.in_ok-at.was
 
 pub returns : goal.returns
-returns c = element_lost _ _ _ _ c.if-p-lt1.false c.if-p-i.false c.row_place-at.ensures _ (sym c.inside.ensures ∙ c.if-inside.false) c.refused_element-2.ensures
+returns c = element_found _ _ _ c.element_place.ensures c.in_ok-at.was _ c.element_at.ensures

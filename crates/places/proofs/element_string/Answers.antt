@@ -1,16 +1,8 @@
-use mathlib.Core.Path.{sym, ◌∙◌}
-use mathlib.Core.Logic.{inl, inr}
-use Rattle.places_layout.proofs.Views.{no_element_string, element_string_read, element_string_outside}
+use Rattle.places.proofs.Queries.{string_read, no_string_read}
 use Rattle.places.proofs.element_string.Goals as goal
 
-pub returns-then-p-lt1 : goal.returns-then-p-lt1
-returns-then-p-lt1 c = no_element_string _ _ _ _ (inl c.if-p-lt1.true) c.refused_span.ensures
-
-pub returns-then-p-i : goal.returns-then-p-i
-returns-then-p-i c = no_element_string _ _ _ _ (inr c.if-p-i.true) c.refused_span-then-p-i.ensures
-
-pub returns-then-inside : goal.returns-then-inside
-returns-then-inside c = element_string_read _ _ _ _ c.if-p-lt1.false c.if-p-i.false (rw c.row_place-at.ensures at (sym c.inside.ensures ∙ c.if-inside.true)) (rw (c.u32_at-o.ensures, c.row_place-at.ensures) at c.string.ensures)
+pub returns-in_err-at : goal.returns-in_err-at
+returns-in_err-at c = no_string_read _ _ _ c.element_place.ensures c.from_residual.ensures c.in_err-at.was
 
 pub returns : goal.returns
-returns c = element_string_outside _ _ _ _ c.if-p-lt1.false c.if-p-i.false (rw c.row_place-at.ensures at (sym c.inside.ensures ∙ c.if-inside.false)) c.refused_span-2.ensures
+returns c = string_read _ _ _ c.element_place.ensures c.in_ok-at.was _ (rw c.u32_at-o.ensures at c.string.ensures)

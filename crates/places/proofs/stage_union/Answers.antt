@@ -1,11 +1,18 @@
+use mathlib.Core.Path.{refl}
 use lib.ListN.{length}
-use mathlib.Core.Path.{sym, ◌∙◌}
+use borrow.Author.Tests.{leb-true}
 use Rattle.places_layout.proofs.Views.{union_outside, union_read}
-use Rattle.places.proofs.Queries.{told, union_told}
+use Rattle.places.proofs.Queries.{told_inside, told_outside, passed_outside, union_told}
 use Rattle.places.proofs.stage_union.Goals as goal
 
-pub returns-then-inside : goal.returns-then-inside
-returns-then-inside c = union_read _ _ _ (rw c.edition_size-n.ensures at (sym c.inside.ensures ∙ c.if-inside.true)) (union_told c.args.p.edition c.args.p.runtime (length c.args.b.now) (rw c.edition_size-n.ensures at (told c.args.p.runtime c.edition_size-n.result (length c.args.b.now) c.inside.ensures c.if-inside.true))) c.accepted_span.ensures
+pub returns-in_err-inside : goal.returns-in_err-inside
+returns-in_err-inside c =
+    let h = rw c.edition_size.ensures at c.inside.ensures in
+    union_outside _ _ _ (told_outside _ _ h c.in_err-inside.was) (passed_outside _ _ h c.from_residual.ensures c.in_err-inside.was)
 
 pub returns : goal.returns
-returns c = union_outside _ _ _ (rw c.edition_size-n.ensures at (sym c.inside.ensures ∙ c.if-inside.false)) c.refused_span.ensures
+returns c =
+    let p = c.args.p.now in
+    let h = rw c.edition_size.ensures at c.inside.ensures in
+    let t = told_inside _ _ h c.in_ok-inside.was in
+    union_read _ _ _ t (union_told p.edition p.runtime (length c.args.b.now) (leb-true _ _ t)) refl

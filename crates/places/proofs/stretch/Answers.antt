@@ -1,10 +1,12 @@
 use borrow.Author.Tests.{leb-true}
-use mathlib.Core.Path.{sym, ◌∙◌}
 use Rattle.places_layout.proofs.Views.{stretch_inside, stretch_outside}
+use Rattle.places.proofs.Queries.{told_inside, told_outside, passed_outside}
 use Rattle.places.proofs.stretch.Goals as goal
 
-pub returns-then-inside : goal.returns-then-inside
-returns-then-inside c = let t = sym c.inside.ensures ∙ c.if-inside.true in rw c.accepted_span.ensures (stretch_inside _ _ _ t (leb-true _ _ t))
+pub returns-in_err-inside : goal.returns-in_err-inside
+returns-in_err-inside c =
+    let h = c.inside.ensures in
+    rw (passed_outside _ _ h c.from_residual.ensures c.in_err-inside.was) (stretch_outside _ _ _ (told_outside _ _ h c.in_err-inside.was))
 
 pub returns : goal.returns
-returns c = rw c.refused_span.ensures (stretch_outside _ _ _ (sym c.inside.ensures ∙ c.if-inside.false))
+returns c = let t = told_inside _ _ c.inside.ensures c.in_ok-inside.was in stretch_inside _ _ _ t (leb-true _ _ t)

@@ -1,9 +1,12 @@
-use mathlib.Core.Path.{◌∙◌}
-use Rattle.psv0.proofs.Openings.{lengths_accepted, lengths_refused}
+use mathlib.Core.Path.{ap, ◌∙◌}
+use Rattle.std.specs.Prelude.{Ok}
+use Rattle.psv0_layout.specs.Answers.{lengths_answer_of}
+use Rattle.psv0.proofs.Openings.{lengths_accepted, opening_refused}
 use Rattle.psv0.proofs.lengths.Goals as goal
 
-pub returns-in-Refused : goal.returns-in-Refused
-returns-in-Refused c = lengths_refused c.args.edition c.args.d.now c.open_places-o.result c.open_places-o.ensures _ _ c.in-Refused.is c.refused_lengths.result c.refused_lengths.ensures
+pub returns-in_err-o : goal.returns-in_err-o
+unfolding lengths_answer_of
+returns-in_err-o c = opening_refused _ _ c.open_places.ensures c.in_err-o.was c.from_residual.ensures _
 
 pub returns : goal.returns
-returns c = c.lengths.ensures ∙ lengths_accepted c.args.edition c.args.d.now c.open_places-o.result c.open_places-o.ensures c.in_default.is
+returns c = ap Ok c.lengths.ensures ∙ lengths_accepted _ _ c.open_places.ensures c.in_ok-o.was

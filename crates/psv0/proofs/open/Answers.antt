@@ -1,12 +1,11 @@
-use Rattle.psv0.proofs.Openings.{opening_accepted, opening_refused}
+use Rattle.wire.proofs.Verdicts.{passed_on}
+use Rattle.psv0_sections.specs.Places.{located_of}
+use Rattle.psv0.proofs.Openings.{opening_accepted}
 use Rattle.psv0.proofs.open.Goals as goal
 
-pub returns-in-Refused : goal.returns-in-Refused
-returns-in-Refused c =
-    let l = c.locate-l in
-    opening_refused c.args.edition c.args.d.now l.result l.ensures _ _ c.in-Refused.is
+pub returns-in_err-p : goal.returns-in_err-p
+unfolding located_of
+returns-in_err-p c = passed_on _ _ c.locate.ensures _ c.from_residual.ensures c.in_err-p.was
 
-pub returns-in-Accepted : goal.returns-in-Accepted
-returns-in-Accepted c =
-    let l = c.locate-l in
-    opening_accepted c.args.edition c.args.d.now l.result l.ensures c.in-Accepted.is c.edition_of.result c.edition_of.ensures
+pub returns : goal.returns
+returns c = opening_accepted _ _ c.locate.ensures c.in_ok-p.was _ c.edition_of.ensures

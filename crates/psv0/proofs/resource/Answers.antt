@@ -1,9 +1,11 @@
 use mathlib.Core.Path.{◌∙◌}
-use Rattle.psv0.proofs.Openings.{resource_accepted, resource_refused}
+use Rattle.psv0_layout.specs.Answers.{resource_answer_of}
+use Rattle.psv0.proofs.Openings.{resource_accepted, query_refused}
 use Rattle.psv0.proofs.resource.Goals as goal
 
-pub returns-in-Refused : goal.returns-in-Refused
-returns-in-Refused c = resource_refused c.args.edition c.args.d.now c.open_places-o.result c.open_places-o.ensures _ _ c.in-Refused.is c.args.i c.refused_resource.result c.refused_resource.ensures
+pub returns-in_err-o : goal.returns-in_err-o
+unfolding resource_answer_of
+returns-in_err-o c = query_refused _ _ c.open_places.ensures c.in_err-o.was c.from_residual.ensures _ _
 
 pub returns : goal.returns
-returns c = c.resource.ensures ∙ resource_accepted c.args.edition c.args.d.now c.open_places-o.result c.open_places-o.ensures c.in_default.is c.args.i
+returns c = c.resource.ensures ∙ resource_accepted _ _ c.open_places.ensures c.in_ok-o.was c.args.i

@@ -1,9 +1,11 @@
 use mathlib.Core.Path.{◌∙◌}
-use Rattle.psv0.proofs.Openings.{info_accepted, info_refused}
+use Rattle.psv0_layout.specs.Answers.{info_answer_of}
+use Rattle.psv0.proofs.Openings.{info_accepted, opening_refused}
 use Rattle.psv0.proofs.runtime_info.Goals as goal
 
-pub returns-in-Refused : goal.returns-in-Refused
-returns-in-Refused c = info_refused c.args.edition c.args.d.now c.open_places-o.result c.open_places-o.ensures _ _ c.in-Refused.is c.refused_info.result c.refused_info.ensures
+pub returns-in_err-o : goal.returns-in_err-o
+unfolding info_answer_of
+returns-in_err-o c = opening_refused _ _ c.open_places.ensures c.in_err-o.was c.from_residual.ensures _
 
 pub returns : goal.returns
-returns c = c.runtime_info.ensures ∙ info_accepted c.args.edition c.args.d.now c.open_places-o.result c.open_places-o.ensures c.in_default.is
+returns c = c.runtime_info.ensures ∙ info_accepted _ _ c.open_places.ensures c.in_ok-o.was

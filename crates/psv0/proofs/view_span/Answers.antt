@@ -1,8 +1,8 @@
 use Rattle.psv0.proofs.Openings.{span_accepted, span_refused}
 use Rattle.psv0.proofs.view_span.Goals as goal
 
-pub returns-in-Refused : goal.returns-in-Refused
-returns-in-Refused c = span_refused c.args.edition c.args.d.now c.open_places-o.result c.open_places-o.ensures _ _ c.in-Refused.is c.args.view c.refused_span.result c.refused_span.ensures
+pub returns-in_err-o : goal.returns-in_err-o
+returns-in_err-o c = span_refused _ _ c.open_places.ensures c.in_err-o.was c.from_residual.ensures c.args.view
 
 pub returns : goal.returns
-returns c = span_accepted c.args.edition c.args.d.now c.open_places-o.result c.open_places-o.ensures c.in_default.is c.args.view c.view_span.result c.view_span.ensures
+returns c = span_accepted _ _ c.open_places.ensures c.in_ok-o.was c.args.view _ c.view_span.ensures

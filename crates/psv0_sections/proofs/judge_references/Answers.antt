@@ -5,4 +5,4 @@ use Rattle.psv0_sections.proofs.judge_references.Goals as goal
 pub returns : goal.returns
 returns c =
     rw (c.u32_at.ensures, entry_read _ c.args.p c.requires.0 _ c.requires.1)
-    at (c.judge_tables.ensures (seen 1 (sections c.args.d.now)).body (strings_read _ c.args.p c.requires.0) (indices_read _ c.args.p c.requires.0) (elements_read _ c.args.p c.requires.0))
+    at (c.judge.ensures (seen 1 (sections c.args.d.now)).body (strings_read _ c.args.p c.requires.0) (indices_read _ c.args.p c.requires.0) (elements_read _ c.args.p c.requires.0))

@@ -1,5 +1,5 @@
 use mathlib.Core.Path.{◌∙◌}
-use mathlib.Core.Logic.{inl, inr}
+use mathlib.Core.Logic.{inl, inr, ⊎_elim}
 use Rattle.psv0_layout.proofs.Masks.{view_none, view_some, patch_some, patch_none}
 use Rattle.psv0_sections.proofs.view_words.Goals as goal
 
@@ -15,13 +15,7 @@ pub returns-then-stage-eq3 : goal.returns-then-stage-eq3
 returns-then-stage-eq3 c =
     c.words-then-stage-eq3.ensures.0
     ∙ patch_some _ _ _ c.byte.ensures.0 c.if-m-lt4.false c.requires c.if-byte-ne1.false _
-    c.byte-stage.ensures.0 (inl c.if-stage-eq3.true) _ c.byte-then-stage-eq3.ensures.0
-
-pub returns-then-stage-eq13 : goal.returns-then-stage-eq13
-returns-then-stage-eq13 c =
-    c.words-then-stage-eq13.ensures.0
-    ∙ patch_some _ _ _ c.byte.ensures.0 c.if-m-lt4.false c.requires c.if-byte-ne1.false _
-    c.byte-stage.ensures.0 (inr c.if-stage-eq13.true) _ c.byte-then-stage-eq13.ensures.0
+    c.byte-stage.ensures.0 (⊎_elim inl (λ q. inr q.1) c.then-stage-eq3.either) _ c.byte-then-stage-eq3.ensures.0
 
 pub returns : goal.returns
 returns c =

@@ -1,10 +1,9 @@
-use mathlib.Core.Path.{◌∙◌, ap}
-use Rattle.qollqamir.specs.Boundary.{c_opened}
+use native.Mathlib.Omega.{arith}
 use Rattle.qollqamir.proofs.Crossing.{opened_small}
 use Rattle.qollqamir.proofs.qollqamir_open_places.Goals as goal
 
-pub c_opened-requires : goal.c_opened-requires
-c_opened-requires c = opened_small _ _ c.open_places.ensures
+pub overflow_cast-result : goal.overflow_cast-result
+overflow_cast-result c = omega (arith, opened_small _ _ c.open_places.ensures c.in-Ok.is)
 
-pub returns : goal.returns
-returns c = c.c_opened.ensures ∙ ap c_opened c.open_places.ensures
+pub overflow_cast-result-in-Ok : goal.overflow_cast-result-in-Ok
+overflow_cast-result-in-Ok c = omega (arith, opened_small _ _ c.open_places.ensures c.in-Ok.is)

@@ -1,8 +1,8 @@
 use Rattle.qollqamir.proofs.Crossing.{no_section, some_section}
 use Rattle.qollqamir.proofs.qollqamir_psv0_section.Goals as goal
 
-pub returns-then-section-gt5 : goal.returns-then-section-gt5
-returns-then-section-gt5 c = no_section _ _ _ _ _ c.if-section-gt5.true c.view_span.ensures c.c_span.ensures
+pub returns-in-Some : goal.returns-in-Some
+returns-in-Some c = some_section _ c.section_of.ensures c.into.ensures _ _ _ _ _ c.in-Some.is c.section_span.ensures
 
-pub returns : goal.returns
-returns c = some_section _ _ _ _ _ c.if-section-gt5.false (rw c.section_of.ensures at c.section_span.ensures) c.c_span-2.ensures
+pub returns-in-None : goal.returns-in-None
+returns-in-None c = no_section _ c.section_of.ensures c.into-in-None.ensures _ _ _ _ _ c.in-None.is c.view_span.ensures

@@ -1,9 +1,19 @@
-use Rattle.qollqamir.proofs.Crossing.{no_report, report_crossed}
+use mathlib.Core.Path.{◌∙◌, ap}
+use Rattle.std.specs.Prelude.{Err}
+use Rattle.signature_report_layout.specs.Reported.{signature_report_of}
+use Rattle.qollqamir.specs.Boundary.{c_signature_report, report_numbered}
+use Rattle.qollqamir.proofs.Crossing.{answered_named, answered_unnamed}
 use Rattle.qollqamir.proofs.qollqamir_signature.Goals as goal
 
-pub returns-then-part-gt2 : goal.returns-then-part-gt2
-returns-then-part-gt2 c = no_report _ _ c.if-part-gt2.true c.no_part-a.ensures c.c_verdict.ensures
+pub returns-in-Some : goal.returns-in-Some
+unfolding report_numbered
+returns-in-Some c =
+    let a = c.args in
+    c.into.ensures ∙ ap c_signature_report (answered_named _ (λ s. signature_report_of s a.edition a.b.now) _ _ c.part_numbered.ensures c.in-Some.is c.report.ensures)
 
-pub returns : goal.returns
-returns c =
-    report_crossed _ _ c.if-part-gt2.false c.part_numbered.ensures c.report.ensures c.c_signature_report.ensures
+pub returns-in-None : goal.returns-in-None
+unfolding report_numbered
+returns-in-None c =
+    let a = c.args in
+    c.into-in-None.ensures
+    ∙ ap c_signature_report (answered_unnamed _ (λ s. signature_report_of s a.edition a.b.now) _ _ c.part_numbered.ensures c.in-None.is (ap Err c.no_part.ensures))

@@ -3,4 +3,4 @@ use Rattle.qollqamir.specs.Boundary.{c_written}
 use Rattle.qollqamir.proofs.qollqamir_write_psv0.Goals as goal
 
 pub returns : goal.returns
-returns c = record { value = c.c_written.ensures ∙ ap c_written c.write.ensures.answered; out_after = c.write.ensures.left }
+returns c = record { value = c.into.ensures ∙ ap c_written c.write.ensures.answered; out_after = c.write.ensures.left }

@@ -1,43 +1,54 @@
+use mathlib.Core.Path.{sym, ◌∙◌}
 use native.Mathlib.Omega.{arith}
-use Rattle.replacing_layout.proofs.Checks.{refuses, may_replace, fits, room, replaces_psv}
+use Rattle.wire.proofs.Verdicts.{refused_by, accepted_by, value_by}
+use Rattle.replacing_layout.proofs.Checks.{not_opened, refused_well, may_replace, never_refused, fits, room, replaces_psv}
 use Rattle.replacing.proofs.replace_psv0.Goals as goal
 
-pub overflow_sub-len : goal.overflow_sub-len
-overflow_sub-len c =
+pub returns-in_err-part : goal.returns-in_err-part
+returns-in_err-part c =
     let p = c.args in
-    let f = may_replace p.edition p.b.now p.new.now p.out.now c.part-part.ensures c.judge-verdict.ensures c.in-Accepted.is in
-    omega arith
+    refused_well p.edition p.b.now p.new.now p.out.now (not_opened p.edition p.b.now _ _ (sym c.part.ensures ∙ c.in_err-part.was)) c.from_residual.ensures
+
+pub judge-requires : goal.judge-requires
+judge-requires c = sym c.part.ensures ∙ c.in_ok-part.was
+
+pub returns-in_err-len : goal.returns-in_err-len
+returns-in_err-len c =
+    let p = c.args in
+    refused_well p.edition p.b.now p.new.now p.out.now (sym (refused_by _ _ c.judge.ensures c.in_err-len.was)) c.from_residual-in_err-len.ensures
+
+pub returns-in_err-alone : goal.returns-in_err-alone
+returns-in_err-alone c =
+    let p = c.args in
+    absurd (never_refused p.edition p.b.now p.new.now p.out.now (sym c.part.ensures ∙ c.in_ok-part.was) (accepted_by _ _ c.judge.ensures c.in_ok-len.was) c.open_places.ensures c.in_err-alone.was)
 
 pub slice_bounds-write-end : goal.slice_bounds-write-end
 slice_bounds-write-end c =
     let p = c.args in
-    let f = fits p.edition p.b.now p.new.now p.out.now c.part-part.ensures c.judge-verdict.ensures c.in-Accepted.is in
+    let f = fits p.edition p.b.now p.new.now p.out.now (sym c.part.ensures ∙ c.in_ok-part.was) (accepted_by _ _ c.judge.ensures c.in_ok-len.was) (value_by _ _ c.judge.ensures c.in_ok-len.was) in
     omega arith
 
 pub write-requires : goal.write-requires
 write-requires c =
     let p = c.args in
-    (may_replace p.edition p.b.now p.new.now p.out.now c.part-part.ensures c.judge-verdict.ensures c.in-Accepted.is, room p.edition p.b.now p.new.now p.out.now c.part-part.ensures c.judge-verdict.ensures c.in-Accepted.is)
+    let h = sym c.part.ensures ∙ c.in_ok-part.was in
+    let a = accepted_by _ _ c.judge.ensures c.in_ok-len.was in
+    (may_replace p.edition p.b.now p.new.now p.out.now h a, room p.edition p.b.now p.new.now p.out.now h a (value_by _ _ c.judge.ensures c.in_ok-len.was))
 
-pub overflow_add-at : goal.overflow_add-at
-overflow_add-at c =
+pub overflow_add-part : goal.overflow_add-part
+overflow_add-part c =
     let p = c.args in
-    let f = may_replace p.edition p.b.now p.new.now p.out.now c.part-part.ensures c.judge-verdict.ensures c.in-Accepted.is in
+    let f = may_replace p.edition p.b.now p.new.now p.out.now (sym c.part.ensures ∙ c.in_ok-part.was) (accepted_by _ _ c.judge.ensures c.in_ok-len.was) in
     omega arith
 
-pub overflow_cast-at : goal.overflow_cast-at
-overflow_cast-at c =
+pub overflow_cast-part : goal.overflow_cast-part
+overflow_cast-part c =
     let p = c.args in
-    let f = may_replace p.edition p.b.now p.new.now p.out.now c.part-part.ensures c.judge-verdict.ensures c.in-Accepted.is in
+    let f = may_replace p.edition p.b.now p.new.now p.out.now (sym c.part.ensures ∙ c.in_ok-part.was) (accepted_by _ _ c.judge.ensures c.in_ok-len.was) in
     omega arith
 
-pub returns-in-Refused : goal.returns-in-Refused
-returns-in-Refused c =
+pub returns : goal.returns
+returns c =
     let p = c.args in
-    refuses p.edition p.b.now p.new.now p.out.now c.part-part.ensures c.judge-verdict.ensures c.in-Refused.is c.refused.ensures
-
-pub returns-in-Accepted : goal.returns-in-Accepted
-returns-in-Accepted c =
-    let p = c.args in
-    replaces_psv p.edition p.b.now p.new.now p.out.now c.part-part.ensures c.judge-verdict.ensures c.in-Accepted.is c.write.ensures
-    c.open_places-read.ensures c.moved.ensures
+    replaces_psv p.edition p.b.now p.new.now p.out.now (sym c.part.ensures ∙ c.in_ok-part.was) (accepted_by _ _ c.judge.ensures c.in_ok-len.was)
+    (value_by _ _ c.judge.ensures c.in_ok-len.was) c.open_places.ensures c.in_ok-alone.was c.write.ensures c.moved.ensures

@@ -50,7 +50,7 @@ write_part-requires c =
     let e = c.u32_at.ensures in
     let w1 = head_written o new c.requires.0 c.requires.1 c.write_head.ensures in
     let w2 = offsets_written o new c.requires.0 c.requires.1 e w1 c.write_offsets.ensures in
-    let k = part_length b (32 + 4 * c.u32_at.result) (c.args.at + 4 - (32 + 4 * c.u32_at.result)) (omega arith) in
+    let k = part_length b (32 + 4 * c.u32_at.result) (c.args.part.offset + 4 - (32 + 4 * c.u32_at.result)) (omega arith) in
     (lent_length w2 _ (omega arith) (omega arith) ∙ rw k (omega arith), omega arith)
 
 pub slice_bounds-copy-count : goal.slice_bounds-copy-count

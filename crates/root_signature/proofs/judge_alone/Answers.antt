@@ -1,31 +1,24 @@
-use Prim.Native.Nat.{ℕ}
-use mathlib.Core.Path.{◌≡◌, sym, ◌∙◌}
 use native.Mathlib.Omega.{arith}
-use Rattle.wire.proofs.Verdicts.{stop_then, pass_then}
+use mathlib.Core.Path.{◌∙◌}
 use Rattle.root_signature_layout.specs.Root.{item_alone}
+use Rattle.wire.proofs.Verdicts.{accepted_by}
+use Rattle.root_signature_layout.proofs.Steps.{stops, goes_on, there_few}
 use Rattle.root_signature.proofs.judge_alone.Goals as goal
 
-pub returns-in-Refused : goal.returns-in-Refused
+pub returns-in_err-judge_header : goal.returns-in_err-judge_header
 unfolding item_alone
-returns-in-Refused c = record { value = stop_then _ _ _ _ (sym c.judge_header-v.ensures ∙ c.in-Refused.is); i_bound = λ e. absurd (let z : ◌≡◌ {A = ℕ} 0 1 = cc in omega arith) }
+returns-in_err-judge_header c = stops _ _ _ c.judge_header.ensures _ c.from_residual.ensures c.in_err-judge_header.was
+
+pub returns-in_err-judge_there : goal.returns-in_err-judge_there
+unfolding item_alone
+returns-in_err-judge_there c =
+    stops _ _ _ c.judge_there.ensures _ c.from_residual-in_err-judge_there.ensures c.in_err-judge_there.was
+    ∙ goes_on _ _ _ c.judge_header.ensures _ c.in_ok-judge_header.was
+
+pub returns : goal.returns
+unfolding item_alone
+returns c =
+    c.judge_item.ensures ∙ goes_on _ _ _ c.judge_there.ensures _ c.in_ok-judge_there.was ∙ goes_on _ _ _ c.judge_header.ensures _ c.in_ok-judge_header.was
 
 pub judge_item-requires : goal.judge_item-requires
-judge_item-requires c = c.judge_there-there.ensures.i_bound c.in-Accepted.is
-
-pub returns-in-Refused-there : goal.returns-in-Refused-there
-unfolding item_alone
-returns-in-Refused-there c =
-    record {
-      value = pass_then _ _ _ (sym c.judge_header-v.ensures ∙ c.in_default.is)
-          (stop_then _ _ _ _ (sym c.judge_there-there.ensures.value ∙ c.in-Refused-there.is));
-      i_bound = λ e. absurd (let z : ◌≡◌ {A = ℕ} 0 1 = cc in omega arith);
-    }
-
-pub returns-in-Accepted : goal.returns-in-Accepted
-unfolding item_alone
-returns-in-Accepted c =
-    record {
-      value = pass_then _ _ _ (sym c.judge_header-v.ensures ∙ c.in_default.is)
-          (pass_then _ _ _ (sym c.judge_there-there.ensures.value ∙ c.in-Accepted.is) c.judge_item.ensures);
-      i_bound = λ e. c.judge_there-there.ensures.i_bound c.in-Accepted.is;
-    }
+judge_item-requires c = there_few _ _ (λ k. omega (arith, c.type_inv.d k)) (accepted_by _ _ c.judge_there.ensures c.in_ok-judge_there.was)

@@ -1,14 +1,12 @@
-use Prim.Native.Nat.{ℕ}
-use mathlib.Core.Path.{◌≡◌, sym, ◌∙◌}
-use native.Mathlib.Omega.{arith}
-use Rattle.wire.proofs.Verdicts.{stop_then, pass_then}
+use mathlib.Core.Path.{◌∙◌}
 use Rattle.root_signature_layout.specs.Root.{item_queried}
+use Rattle.root_signature_layout.proofs.Steps.{stops, goes_on}
 use Rattle.root_signature.proofs.judge_query.Goals as goal
 
-pub returns-in-Refused : goal.returns-in-Refused
+pub returns-in_err-judge : goal.returns-in_err-judge
 unfolding item_queried
-returns-in-Refused c = record { value = stop_then _ _ _ _ (sym c.judge-v.ensures ∙ c.in-Refused.is); i_bound = λ e. absurd (let z : ◌≡◌ {A = ℕ} 0 1 = cc in omega arith) }
+returns-in_err-judge c = stops _ _ _ c.judge.ensures _ c.from_residual.ensures c.in_err-judge.was
 
-pub returns-in-Accepted : goal.returns-in-Accepted
+pub returns : goal.returns
 unfolding item_queried
-returns-in-Accepted c = record { value = pass_then _ _ _ (sym c.judge-v.ensures ∙ c.in-Accepted.is) c.judge_there.ensures.value; i_bound = c.judge_there.ensures.i_bound }
+returns c = c.judge_there.ensures ∙ goes_on _ _ _ c.judge.ensures _ c.in_ok-judge.was

@@ -7,10 +7,10 @@ returns c =
     rw (
       c.u32_at-6.ensures,
       c.by_version.ensures.value,
+      c.field_in_11.ensures,
       c.u32_at-5.ensures,
       c.u32_at-4.ensures,
       c.u32_at-3.ensures,
       c.u32_at-2.ensures,
-      c.field_in_11-flags.ensures,
       c.u32_at.ensures,
     )

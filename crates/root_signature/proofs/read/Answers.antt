@@ -1,8 +1,12 @@
-use Rattle.root_signature_layout.proofs.Steps.{none_read, header_read}
+use mathlib.Core.Path.{sym}
+use Rattle.wire.proofs.Verdicts.{accepts, accepted_by, passed_on}
+use Rattle.root_signature_layout.specs.Root.{root_of}
 use Rattle.root_signature.proofs.read.Goals as goal
 
-pub returns-in-Refused : goal.returns-in-Refused
-returns-in-Refused c = rw c.no_header.ensures (none_read _ c.judge-v.ensures c.in-Refused.is)
+pub returns-in_err-judge : goal.returns-in_err-judge
+unfolding root_of
+returns-in_err-judge c = passed_on _ _ c.judge.ensures _ c.from_residual.ensures c.in_err-judge.was
 
-pub returns-in-Accepted : goal.returns-in-Accepted
-returns-in-Accepted c = rw c.header.ensures (header_read _ c.judge-v.ensures c.in-Accepted.is)
+pub returns : goal.returns
+unfolding root_of
+returns c = rw c.header.ensures (accepts _ _ (sym (accepted_by _ _ c.judge.ensures c.in_ok-judge.was)))

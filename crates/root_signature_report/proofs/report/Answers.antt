@@ -1,25 +1,25 @@
-use mathlib.Core.Path.{◌∙◌}
 use native.Mathlib.Omega.{arith}
 use Rattle.container_layout.proofs.Parts.{part_fits, part_short}
-use Rattle.root_signature_report_layout.proofs.Steps.{part_refused, data_refused, data_accepted}
+use Rattle.wire.proofs.Verdicts.{passed_on}
+use Rattle.root_signature_report_layout.specs.Reported.{root_report_of}
+use Rattle.root_signature_report_layout.proofs.Steps.{part_refused, header_is, data_accepted}
 use Rattle.root_signature_report.proofs.report.Goals as goal
 
-pub returns-in-Refused : goal.returns-in-Refused
-returns-in-Refused c = c.no_report.ensures ∙ part_refused _ _ c.part-p.ensures c.in-Refused.is
+pub returns-in_err-p : goal.returns-in_err-p
+returns-in_err-p c = part_refused _ _ c.part.ensures c.from_residual.ensures c.in_err-p.was
 
 pub overflow_add-start : goal.overflow_add-start
-overflow_add-start c = omega (arith, part_short _ _ _ _ c.part-p.ensures c.in_default.is)
+overflow_add-start c = omega (arith, part_short _ _ _ _ c.part.ensures c.in_ok-p.was)
 
-pub overflow_add-end : goal.overflow_add-end
-overflow_add-end c = omega (arith, part_short _ _ _ _ c.part-p.ensures c.in_default.is)
+pub overflow_add-start-2 : goal.overflow_add-start-2
+overflow_add-start-2 c = omega (arith, part_short _ _ _ _ c.part.ensures c.in_ok-p.was)
 
 pub slice_bounds-read-end : goal.slice_bounds-read-end
-slice_bounds-read-end c = omega (arith, part_fits _ _ _ _ c.part-p.ensures c.in_default.is)
+slice_bounds-read-end c = omega (arith, part_fits _ _ _ _ c.part.ensures c.in_ok-p.was)
 
-pub returns-in-Refused-judged : goal.returns-in-Refused-judged
-returns-in-Refused-judged c =
-    c.no_report-in-Refused-judged.ensures ∙ data_refused _ _ c.part-p.ensures c.in_default.is c.read-s.ensures c.in-Refused-judged.is
+pub returns-in_err-header : goal.returns-in_err-header
+unfolding root_report_of
+returns-in_err-header c = passed_on _ _ (header_is _ _ c.part.ensures c.in_ok-p.was c.read.ensures) _ c.from_residual-in_err-header.ensures c.in_err-header.was
 
 pub returns : goal.returns
-returns c =
-    data_accepted _ _ c.part-p.ensures c.in_default.is c.read-s.ensures c.in_default-judged.is
+returns c = data_accepted _ _ c.part.ensures c.in_ok-p.was c.read.ensures c.in_ok-header.was

@@ -1,16 +1,16 @@
-use native.Mathlib.Omega.{arith}
-use borrow.Author.Tests.{eq-eqb, ne_eqb, le-leb}
 use Rattle.settings_layout.specs.Rules.{in_range}
+use Rattle.std.proofs.Common.{arith}
+use Rattle.std.proofs.lemmas.Bool.Decides.{nat_tests}
 use Rattle.settings_reader.proofs.in_range.Goals as goal
 
-pub returns-then-key-eq1 : goal.returns-then-key-eq1
+pub returns-in-1 : goal.returns-in-1
 unfolding in_range
-returns-then-key-eq1 c = simp (eq-eqb _ _ c.if-key-eq1.true)
+returns-in-1 c = rw c.in-1.is
 
-pub returns-then-key-eq3 : goal.returns-then-key-eq3
+pub returns-in-3 : goal.returns-in-3
 unfolding in_range
-returns-then-key-eq3 c = simp (ne_eqb _ _ c.if-key-eq1.false, eq-eqb _ _ c.if-key-eq3.true)
+returns-in-3 c = rw c.in-3.is
 
-pub returns : goal.returns
+pub returns-in_default : goal.returns-in_default
 unfolding in_range
-returns c = simp (ne_eqb _ _ c.if-key-eq1.false, ne_eqb _ _ c.if-key-eq3.false, le-leb c.args.value 4294967295 (omega arith))
+returns-in_default c = grind (arith, nat_tests)

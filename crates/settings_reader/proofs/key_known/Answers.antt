@@ -1,11 +1,12 @@
-use borrow.Author.Tests.{le-leb, lt-leb}
 use Rattle.settings_layout.specs.Rules.{key_known}
+use Rattle.std.proofs.Common.{arith}
+use Rattle.std.proofs.lemmas.Bool.Decides.{nat_tests}
 use Rattle.settings_reader.proofs.key_known.Goals as goal
 
-pub returns-then-key-lt1 : goal.returns-then-key-lt1
+pub returns-then-key-ge1 : goal.returns-then-key-ge1
 unfolding key_known
-returns-then-key-lt1 c = simp (lt-leb _ _ c.if-key-lt1.true)
+returns-then-key-ge1 c = grind (arith, nat_tests)
 
-pub returns : goal.returns
+pub returns-else-key-ge1 : goal.returns-else-key-ge1
 unfolding key_known
-returns c = simp (le-leb _ _ c.if-key-lt1.false)
+returns-else-key-ge1 c = grind (arith, nat_tests)

@@ -1,8 +1,12 @@
-use Rattle.settings_reader.proofs.Walks.{read_refused, read_accepted}
+use Rattle.wire.proofs.Verdicts.{passed_on}
+use Rattle.settings_layout.specs.Shown.{settings_of}
+use Rattle.settings_reader.specs.Walk.{walked_of}
+use Rattle.settings_reader.proofs.Walks.{read_told}
 use Rattle.settings_reader.proofs.read.Goals as goal
 
-pub returns-in-Refused : goal.returns-in-Refused
-returns-in-Refused c = read_refused c.args.d.now 0 0 0 c.walk_file-verdict.ensures c.in-Refused.is
+pub returns-in_err-walk_file : goal.returns-in_err-walk_file
+unfolding walked_of settings_of
+returns-in_err-walk_file c = passed_on _ _ c.walk_file.ensures _ c.from_residual.ensures c.in_err-walk_file.was
 
-pub returns-in-Accepted : goal.returns-in-Accepted
-returns-in-Accepted c = read_accepted c.args.d.now 0 0 0 c.walk_file-verdict.ensures c.in-Accepted.is c.count_of.ensures c.first_of.ensures
+pub returns : goal.returns
+returns c = read_told c.args.d.now 0 0 0 c.walk_file.ensures c.in_ok-walk_file.was

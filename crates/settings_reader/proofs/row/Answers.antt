@@ -1,12 +1,15 @@
-use mathlib.Core.Path.{◌∙◌}
-use Rattle.settings_reader.proofs.Walks.{row_refused, row_none, row_there}
+use Rattle.settings_layout.specs.Shown.{row_answer_of}
+use Rattle.settings_reader.specs.Walk.{walked_of}
+use Rattle.settings_reader.proofs.Steps.{stopped}
+use Rattle.settings_reader.proofs.Walks.{row_there, row_none, row_refused}
 use Rattle.settings_reader.proofs.row.Goals as goal
 
-pub returns-then-count_of-i : goal.returns-then-count_of-i
-returns-then-count_of-i c = c.no_row-then-count_of-i.ensures ∙ row_none c.args.d.now 0 0 c.args.i c.walk_file-w.ensures c.in-Accepted.is c.count_of.ensures c.if-count_of-i.true
+pub returns-in_err-row : goal.returns-in_err-row
+unfolding walked_of row_answer_of
+returns-in_err-row c = stopped _ _ c.walk_file.ensures _ _ c.from_residual.ensures c.in_err-row.was (row_refused c.args.d.now c.args.i)
 
-pub returns-in-Refused : goal.returns-in-Refused
-returns-in-Refused c = c.no_row.ensures ∙ row_refused c.args.d.now 0 0 c.args.i c.walk_file-w.ensures _ _ c.in-Refused.is
+pub returns-in-Some : goal.returns-in-Some
+returns-in-Some c = row_there c.args.d.now 0 0 c.args.i c.walk_file.ensures c.in_ok-row.was c.in-Some.row c.in-Some.is
 
-pub returns-else-count_of-i : goal.returns-else-count_of-i
-returns-else-count_of-i c = row_there c.args.d.now 0 0 c.args.i c.walk_file-w.ensures c.in-Accepted.is c.count_of.ensures c.if-count_of-i.false
+pub returns-in-None : goal.returns-in-None
+returns-in-None c = row_none c.args.d.now 0 0 c.args.i c.walk_file.ensures c.in_ok-row.was c.in-None.is c.refused.ensures

@@ -1,15 +1,11 @@
-use borrow.Author.Tests.{eq-eqb, ne_eqb, le-leb, lt-leb}
+use borrow.Author.Tests.{eq-eqb, le-leb}
 use Rattle.settings_layout.specs.Rules.{tells}
+use Rattle.settings_reader.proofs.Walks.{untold}
 use Rattle.settings_reader.proofs.taken.Goals as goal
 
-pub returns-then-row-key : goal.returns-then-row-key
+pub returns-then-row-version : goal.returns-then-row-version
 unfolding tells
-returns-then-row-key c = simp (ne_eqb _ _ c.if-row-key.true)
+returns-then-row-version c = rw (eq-eqb _ _ c.if-row-key.true, le-leb _ _ c.if-row-version.true)
 
-pub returns-then-version-row : goal.returns-then-version-row
-unfolding tells
-returns-then-version-row c = simp (eq-eqb _ _ c.if-row-key.false, lt-leb _ _ c.if-version-row.true)
-
-pub returns : goal.returns
-unfolding tells
-returns c = simp (eq-eqb _ _ c.if-row-key.false, le-leb _ _ c.if-version-row.false)
+pub returns-else-row-key : goal.returns-else-row-key
+returns-else-row-key c = rw (untold c.args.key c.args.version c.args.row c.else-row-key.either)

@@ -1,22 +1,26 @@
-use mathlib.Core.Path.{◌∙◌}
-use native.Mathlib.Omega.{arith}
-use Rattle.settings_reader.proofs.Walks.{walk_begin, walk_stop, walk_more, walk_over, walk_done}
+use Rattle.wire.proofs.Verdicts.{refuses, accepts, accepted_by, value_by}
+use Rattle.settings_layout.specs.Shown.{row_alone_of}
+use Rattle.settings_reader.proofs.Steps.{stopped}
+use Rattle.settings_reader.proofs.Walks.{walk_begin, walk_stop, walk_more, walk_over, walk_done, walk_setting, walk_row}
 use Rattle.settings_reader.proofs.walk.Goals as goal
 
-pub loop-done-init : goal.loop-done-init
-loop-done-init c = walk_begin c.args.d.now c.args.count c.args.from c.args.key c.args.version c.args.i c.requires
+pub loop-j-init : goal.loop-j-init
+loop-j-init c = walk_begin _ _ _ _ _ _ c.requires
 
-pub returns-in-Refused : goal.returns-in-Refused
-returns-in-Refused c = c.walk_refused.ensures ∙ walk_stop c.args.d.now c.args.count c.args.from c.args.key c.args.version c.args.i c.loop-done.done c.loop-done.last c.loop-done.at c.loop-done.setting c.loop-done.kept c.loop-done.invariant c.loop-done-test.true c.row_alone-got.ensures _ _ c.in-Refused.is _ _
+pub loop-j-preserved : goal.loop-j-preserved
+unfolding row_alone_of
+loop-j-preserved c =
+    walk_more c.loop-j.invariant c.loop-j-test.true (accepted_by _ _ c.row_alone.ensures c.in_ok-alone.was) (value_by _ _ c.row_alone.ensures c.in_ok-alone.was) c.taken-setting.ensures c.wanted-row.ensures
 
-pub loop-done-smaller : goal.loop-done-smaller
-loop-done-smaller c = omega arith
-
-pub loop-done-preserved : goal.loop-done-preserved
-loop-done-preserved c = walk_more c.args.d.now c.args.count c.args.from c.args.key c.args.version c.args.i c.loop-done.done c.loop-done.last c.loop-done.at c.loop-done.setting c.loop-done.kept c.loop-done.invariant c.loop-done-test.true c.row_alone-got.ensures c.in_default.is c.taken-setting.ensures c.wanted-kept.ensures
+pub returns-in_err-alone : goal.returns-in_err-alone
+unfolding row_alone_of
+returns-in_err-alone c =
+    stopped _ _ c.row_alone.ensures _ _ c.from_residual.ensures c.in_err-alone.was (walk_stop c.loop-j.invariant c.loop-j-test.true)
 
 pub returns-then-at-d : goal.returns-then-at-d
-returns-then-at-d c = c.walk_refused-then-at-d.ensures ∙ walk_over c.args.d.now c.args.count c.args.from c.args.key c.args.version c.args.i c.loop-done.done c.loop-done.last c.loop-done.at c.loop-done.setting c.loop-done.kept c.loop-done.invariant c.loop-done-test.false c.if-at-d.true _ _
+returns-then-at-d c = refuses _ _ c.refused.ensures (walk_over c.loop-j.invariant c.loop-j-test.false c.if-at-d.true)
 
 pub returns : goal.returns
-returns c = walk_done c.args.d.now c.args.count c.args.from c.args.key c.args.version c.args.i c.loop-done.done c.loop-done.last c.loop-done.at c.loop-done.setting c.loop-done.kept c.loop-done.invariant c.loop-done-test.false c.if-at-d.false
+returns c =
+    rw (walk_setting c.loop-j.invariant c.loop-j-test.false, walk_row c.loop-j.invariant c.loop-j-test.false)
+    (accepts _ _ (walk_done c.loop-j.invariant c.loop-j-test.false c.if-at-d.false))

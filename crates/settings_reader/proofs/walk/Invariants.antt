@@ -1,9 +1,5 @@
-use Prim.Native.Nat.{◌-◌}
 use Rattle.settings_reader.proofs.Walks.{Walking}
 use Rattle.settings_reader.proofs.walk.Given as goal
 
-abbrev pub invariant-loop-done : goal.invariant-loop-done
-invariant-loop-done l = Walking l.d l.count l.from l.key l.version l.i l.done l.last l.at l.setting l.kept
-
-abbrev pub decreases-loop-done : goal.decreases-loop-done
-decreases-loop-done l = l.count - l.done
+abbrev pub invariant-loop-j : goal.invariant-loop-j
+invariant-loop-j l = Walking l.d l.settings.rows l.settings.first l.key l.version l.i l.j l.last l.at l.setting l.row

@@ -14,14 +14,7 @@ pub overflow_mul-before : goal.overflow_mul-before
 overflow_mul-before c =
     omega (arith, place_inside c.args.i c.args.w c.args.before c.args.size _ (omega (arith, c.if-size-i.false)) c.requires.1)
 
-pub returns-then-same : goal.returns-then-same
-returns-then-same c =
-    let f = c.args in
-    rw c.if-same.true at
-    (compared f.d.now f.i f.t.now f.e.now f.before f.size f.w c.u32_at.ensures c.u32_at-o.ensures c.if-o-eq0.false c.if-size-i.false c.u32_at-q.ensures c.same.ensures)
-
 pub returns : goal.returns
 returns c =
     let f = c.args in
-    rw c.if-same.false at
-    (compared f.d.now f.i f.t.now f.e.now f.before f.size f.w c.u32_at.ensures c.u32_at-o.ensures c.if-o-eq0.false c.if-size-i.false c.u32_at-q.ensures c.same.ensures)
+    compared f.d.now f.i f.t.now f.e.now f.before f.size f.w c.u32_at.ensures c.u32_at-o.ensures c.if-o-eq0.false c.if-size-i.false c.u32_at-2.ensures c.same.ensures

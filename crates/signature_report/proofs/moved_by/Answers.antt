@@ -2,14 +2,11 @@ use native.Mathlib.Omega.{arith}
 use Rattle.signature_report_layout.proofs.Steps.{stays, moves}
 use Rattle.signature_report.proofs.moved_by.Goals as goal
 
-pub overflow_add-at : goal.overflow_add-at
-overflow_add-at c =
-    omega (arith, c.requires _ _ _ c.in-At.is)
+pub overflow_add-result : goal.overflow_add-result
+overflow_add-result c = omega (arith, c.requires _ c.in-Some.is)
 
-pub returns-in-Unset : goal.returns-in-Unset
-returns-in-Unset c = stays _ _ c.in-Unset.is
+pub returns-in_default : goal.returns-in_default
+returns-in_default c = stays _ _ c.in_default.is
 
-pub returns-in-At : goal.returns-in-At
-returns-in-At c =
-    let f = c.args in
-    moves f.by f.a c.in-At.is
+pub returns : goal.returns
+returns c = moves _ c.args.a c.in-Some.is

@@ -10,15 +10,15 @@ loop-i-init c = begin _ _
 
 pub differs-requires : goal.differs-requires
 differs-requires c =
-    (element_inside_lem _ c.requires.0 _ (omega (arith, c.u32_at-n.ensures, c.loop-i-test.true)), c.requires.1, c.requires.2)
+    (element_inside_lem _ c.requires.0 _ (omega (arith, c.u32_at-i-end.ensures, c.loop-i-test.true)), c.requires.1, c.requires.2)
 
 pub returns-then-differs : goal.returns-then-differs
 returns-then-differs c =
-    found_first _ _ c.u32_at-n.ensures c.loop-i.invariant c.loop-i-test.true (sym c.differs.ensures ∙ c.if-differs.true)
+    found_first _ _ c.u32_at-i-end.ensures c.loop-i.invariant c.loop-i-test.true (sym c.differs.ensures ∙ c.if-differs.true)
 
 pub loop-i-preserved : goal.loop-i-preserved
 loop-i-preserved c =
-    more _ _ c.loop-i.invariant (omega (arith, c.u32_at-n.ensures, c.loop-i-test.true)) (sym c.differs.ensures ∙ c.if-differs.false)
+    more _ _ c.loop-i.invariant (omega (arith, c.u32_at-i-end.ensures, c.loop-i-test.true)) (sym c.differs.ensures ∙ c.if-differs.false)
 
 pub returns : goal.returns
-returns c = found_none _ _ c.u32_at-n.ensures c.loop-i.invariant (omega (arith, c.loop-i-test.false))
+returns c = found_none _ _ c.u32_at-i-end.ensures c.loop-i.invariant (omega (arith, c.loop-i-test.false))

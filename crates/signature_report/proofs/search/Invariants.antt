@@ -1,4 +1,3 @@
-use Prim.Native.Nat.{◌-◌}
 use Rattle.wire.proofs.Searches.{Searched}
 use Rattle.signature_layout.specs.Signature.{count_of}
 use Rattle.signature_report_layout.specs.Listed.{listed}
@@ -7,6 +6,3 @@ use Rattle.signature_report.proofs.search.Given as goal
 
 abbrev pub invariant-loop-i : goal.invariant-loop-i
 invariant-loop-i l = Searched (differs_at l.d (listed l.t l.e l.before l.size l.w)) (count_of l.d) l.i
-
-abbrev pub decreases-loop-i : goal.decreases-loop-i
-decreases-loop-i l = l.n - l.i

@@ -1,30 +1,13 @@
-use mathlib.Core.Logic.{inr, ⊎_elim}
-use native.Mathlib.Omega.{arith}
-use Rattle.psv0_layout.proofs.References.{no_zero_join, string_past, string_stops}
-use Rattle.strings.proofs.Compared.{string_length}
+use mathlib.Core.Path.{◌∙◌}
+use Rattle.std.proofs.lemmas.List.{take_rest}
+use Rattle.psv0_layout.proofs.References.{string_past, string_stops}
+use Rattle.strings.proofs.Compared.{string_found}
 use Rattle.strings.proofs.len_at.Goals as goal
 
-pub returns-then-len-o : goal.returns-then-len-o
-returns-then-len-o c =
+pub returns-then-t-o : goal.returns-then-t-o
+returns-then-t-o c =
     let a = c.args in
-    rw (string_stops a.t.now a.o (string_past a.t.now a.o c.if-len-o.true))
-
-pub returns-then-len-o-lt256 : goal.returns-then-len-o-lt256
-returns-then-len-o-lt256 c =
-    let a = c.args in
-    let r = c.first_zero.ensures in
-    string_length a.t.now a.o _ r.0 r.2 r.3
-
-pub returns-then-i-near : goal.returns-then-i-near
-returns-then-i-near c =
-    let a = c.args in
-    let r = c.first_zero-i.ensures in
-    string_length a.t.now a.o _ r.0 r.2 (⊎_elim (λ q. absurd (omega arith)) inr r.3)
+    rw (string_stops a.t.now a.o (string_past a.t.now a.o c.if-t-o.true))
 
 pub returns : goal.returns
-returns c =
-    let a = c.args in
-    let b = c.past_blocks in
-    let r = c.first_zero-2.ensures in
-    let near = no_zero_join a.t.now a.o c.first_zero-i.result b.result c.first_zero-i.ensures.2 b.ensures.2 in
-    string_length a.t.now a.o _ (omega arith) (no_zero_join a.t.now a.o b.result _ near r.2) r.3
+returns c = c.unwrap_or.ensures ∙ string_found c.args.t.now c.args.o c.if-t-o.false (take_rest c.args.t.now c.args.o) c.memchr.result c.memchr.ensures

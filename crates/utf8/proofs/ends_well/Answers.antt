@@ -1,13 +1,10 @@
-use mathlib.Core.Path.{refl}
 use native.Mathlib.Omega.{arith}
 use Rattle.utf8.specs.Machine.{between}
-use Rattle.utf8.specs.Rows.{rows_of}
 use Rattle.utf8.proofs.Stops.{read_good}
 use Rattle.utf8.proofs.ends_well.Goals as goal
 
 pub run-requires : goal.run-requires
-unfolding rows_of
-run-requires c = let p = c.requires in (refl, omega (arith, p.0), omega (arith, p.1), between)
+run-requires c = let p = c.requires in (omega (arith, p.0), omega (arith, p.1), between)
 
 pub returns : goal.returns
 returns c =

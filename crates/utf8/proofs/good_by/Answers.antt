@@ -7,16 +7,16 @@ pub run-r-requires : goal.run-r-requires
 run-r-requires c =
     let p = c.requires in
     let q = c.past-p.ensures in
-    (p.0, omega (arith, q.1), q.3, between)
+    (omega (arith, p.0, q.1), q.3, between)
 
 pub returns-then-r-eq6 : goal.returns-then-r-eq6
 returns-then-r-eq6 c =
     let a = c.args in
     let q = c.past-p.ensures in
-    by_next a.t.now a.o a.to _ _ c.requires.1 c.requires.2 q.0 q.3 c.run-r.ensures.0 a.next c.requires.3 c.if-r-eq6.true
+    by_next a.t.now a.o a.to _ _ c.requires.0 c.requires.1 q.0 q.3 c.run-r.ensures.0 a.next c.requires.2 c.if-r-eq6.true
 
 pub returns : goal.returns
 returns c =
     let a = c.args in
     let q = c.past-p.ensures in
-    by_state a.t.now a.o a.to _ _ c.requires.1 c.requires.2 q.0 q.3 c.run-r.ensures.0 c.if-r-eq6.false
+    by_state a.t.now a.o a.to _ _ c.requires.0 c.requires.1 q.0 q.3 c.run-r.ensures.0 c.if-r-eq6.false

@@ -7,13 +7,13 @@ use Rattle.utf8.proofs.mark_all.Goals as goal
 
 pub loop-j-init : goal.loop-j-init
 loop-j-init c =
-    (refl, omega arith, c.flag_to_end-next.ensures, rw c.lesser-j.ensures (marked_begin _ _ _))
+    (refl, omega arith, c.flag_to_end-next.ensures, rw c.min-end.ensures (marked_begin _ _ _))
 
 pub mark_at-m-requires : goal.mark_at-m-requires
 mark_at-m-requires c =
     let l = c.loop-j in
     let e : (l.j - 1) * 256 + 256 ≡ l.j * 256 = omega arith in
-    (c.requires.0, omega arith, rw e l.invariant.2)
+    (omega arith, rw e l.invariant.2)
 
 pub loop-j-preserved : goal.loop-j-preserved
 loop-j-preserved c =

@@ -9,7 +9,7 @@ loop-i-init c = (omega arith, most_none c.args.t.now c.args.from _, λ q. omega 
 pub loop-i-preserved : goal.loop-i-preserved
 loop-i-preserved c =
     let t = c.args.t.now in
-    let g = c.greater-most in (
+    let g = c.max-most in (
       omega (arith, c.loop-i.invariant.0),
       most_more t c.args.from c.loop-i.i c.loop-i.most g.result c.loop-i.invariant.1 (omega (arith, g.ensures)) (omega (arith, g.ensures)),
       most_below t c.args.from c.loop-i.i c.loop-i.most g.result (omega arith) c.loop-i.invariant.0 c.loop-i.invariant.2 g.ensures,

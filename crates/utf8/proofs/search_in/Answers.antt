@@ -1,12 +1,6 @@
-use mathlib.Core.Path.{refl}
-use Rattle.utf8.specs.Rows.{rows_of}
-use borrow.Author.Rules.{rules}
+use Prim.Native.Nat.{ℕ}
+use Rattle.std.proofs.lemmas.List.{length-replicate}
 use Rattle.utf8.proofs.search_in.Goals as goal
 
 pub mark_all-requires : goal.mark_all-requires
-unfolding rows_of
-mark_all-requires c = (refl, search rules)
-
-pub search-requires : goal.search-requires
-unfolding rows_of
-search-requires c = (refl, c.mark_all.ensures.1)
+mark_all-requires g c = simp (length-replicate {A = ℕ}) c.requires

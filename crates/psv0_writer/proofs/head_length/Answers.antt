@@ -1,7 +1,0 @@
-use native.Mathlib.Omega.{arith}
-use Rattle.psv0_writer_layout.specs.Stretch.{head_length}
-use Rattle.psv0_writer.proofs.head_length.Goals as goal
-
-pub returns : goal.returns
-unfolding head_length
-returns c = omega arith

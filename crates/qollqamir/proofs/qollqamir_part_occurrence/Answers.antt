@@ -1,6 +1,0 @@
-use mathlib.Core.Path.{◌∙◌, ap}
-use Rattle.qollqamir.specs.Boundary.{c_part}
-use Rattle.qollqamir.proofs.qollqamir_part_occurrence.Goals as goal
-
-pub returns : goal.returns
-returns c = c.c_part.ensures ∙ ap c_part c.part_occurrence.ensures

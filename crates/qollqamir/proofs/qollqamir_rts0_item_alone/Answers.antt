@@ -1,6 +1,0 @@
-use mathlib.Core.Path.{◌∙◌, ap}
-use Rattle.qollqamir.specs.Boundary.{c_item}
-use Rattle.qollqamir.proofs.qollqamir_rts0_item_alone.Goals as goal
-
-pub returns : goal.returns
-returns c = c.c_item.ensures ∙ ap c_item c.item_alone.ensures

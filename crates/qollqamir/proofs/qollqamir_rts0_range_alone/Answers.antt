@@ -1,6 +1,0 @@
-use mathlib.Core.Path.{◌∙◌, ap}
-use Rattle.qollqamir.specs.Boundary.{c_range}
-use Rattle.qollqamir.proofs.qollqamir_rts0_range_alone.Goals as goal
-
-pub returns : goal.returns
-returns c = c.c_range.ensures ∙ ap c_range c.range_alone.ensures

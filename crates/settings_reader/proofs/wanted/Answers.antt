@@ -1,8 +1,0 @@
-use borrow.Author.Tests.{eq-eqb, ne_eqb}
-use Rattle.settings_reader.proofs.wanted.Goals as goal
-
-pub returns-then-j-i : goal.returns-then-j-i
-returns-then-j-i c = rw (eq-eqb _ _ c.if-j-i.true)
-
-pub returns : goal.returns
-returns c = rw (ne_eqb _ _ c.if-j-i.false)
