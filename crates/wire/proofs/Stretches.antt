@@ -1,13 +1,14 @@
 -- Laws of lists that are compared, and of a slice that is written stretch after stretch.
 -- Assumes nothing.
-use Prim.Native.Nat.{ℕ, ◌+◌, ◌-◌, ◌≤◌}
+use Prim.Native.Nat.{ℕ, ◌+◌, ◌-◌, ◌≤◌, ◌<◌}
 use mathlib.Core.Path.{◌≡◌, refl, sym, ◌∙◌, ap}
 use mathlib.Core.Bool.{true, true≢false}
 use mathlib.Core.List.{List, [], ◌∷◌, ◌++◌, append_assoc, append-nil}
+use native.Mathlib.Numerals.{add-one}
 use native.Mathlib.Nat.{zero-add}
 use native.Mathlib.Omega.{arith}
-use lib.ListN.{length, take, drop, length-append, length-drop, drop_of_length-le, take-append-drop}
-use lib.Seq.{take_at, drop_at, drop-drop, length-take-le}
+use lib.ListN.{length, get_or, take, drop, set, length-append, length-drop, drop_of_length-le, take-append-drop}
+use lib.Seq.{take_at, drop_at, drop-drop, paste-suc, take-length, length-take-le}
 use lib.Dec.{eqb}
 use borrow.Author.Tests.{eq-eqb, ne_eqb, eqb-true}
 use Rattle.wire.specs.Number.{placed}
@@ -36,6 +37,15 @@ module _ (o s : List ℕ) where
   pub copied_not : (length o ≡ length s → ⊥) → o ≡ copied o s
   unfolding copied
   copied_not h = rw (ne_eqb _ _ h)
+
+  -- the loop that copies: one more, and all
+  pub copy_more : (i : ℕ) → i < length o → i < length s → set (take i s ++ drop i o) i (get_or s i 0) ≡ take (i + 1) s ++ drop (i + 1) o
+  copy_more i h g = let e = rw (zero-add i, zero-add) at (paste-suc o 0 s i 0 (rw zero-add h) g) in rw add-one e
+
+  pub copy_all : (i : ℕ) → length o ≡ length s → i ≡ length s → take i s ++ drop i o ≡ copied o s
+  copy_all i e q =
+      let d : drop (length s) o ≡ [] = drop_of_length-le o {i = length s} (omega arith) in
+      rw (q, take-length s, d, append-nil) (sym (copied_is e))
 
 -- the stretch as long as v at a place is lent, and v is copied over it
 pub lent_placed : (l v : List ℕ) (at : ℕ) {y : List ℕ} → at + length v ≤ length l → y ≡ copied (take (at + length v - at) (drop at l)) v
