@@ -2,10 +2,10 @@
 // Every check is made before the first byte is written.
 #![tactic(auto)]
 
-ghost use Rattle.std.specs.Prelude.{◌≡◌, ◌++◌, ◌+◌, ◌*◌, ◌≤◌, ◌<◌, eqb, length, replicate};
+ghost use Rattle.std.specs.Prelude.{◌≡◌, ◌++◌, ◌+◌, ◌*◌, ◌≤◌, ◌<◌, eqb, get_or, length, replicate};
 ghost use Rattle.wire.specs.Number.{u32_at, le32};
 ghost use Rattle.wire.specs.Verdict.{each, under};
-ghost use Rattle.part_table_layout.specs.Table.{name_judged};
+ghost use Rattle.part_table_layout.specs.Table.{may_stand, name_judged};
 ghost use Rattle.assembler_layout.specs.Assembled.{total, round_up, file_length, offsets_from, assembled, parts_right};
 ghost use Rattle.assembler_layout.specs.Answer.{given, answer, output, sized, Passed, header_bytes, front_bytes};
 ghost use Rattle.assembler.specs.Parts.{parts_of};
@@ -28,16 +28,32 @@ fn sums_to(sizes: &[u32], sum: usize) -> bool
     left == 0
 }
 
+// Whether a part with this name may stand after the first n, whose names were seen. The search ends at the first that is the same, so that names
+// that repeat cost no more than others.
+fn may_stand(seen: &[u32; 96], n: usize, name: u32) -> bool
+    requires { n ≤ 96 }
+    ensures { result ≡ may_stand (λ k. get_or seen.now k 0) name n }
+{
+    match part_table::find_name(seen, n, name) {
+        Some(_) => part_table::may_repeat(name),
+        None => true,
+    }
+}
+
 // No name that may not repeat stands twice among the n names: refusal 9.
 fn judge_names(names: &[u8], n: usize) -> Result<(), Refusal>
     requires { n ≤ 96 }
     ensures { result ≡ under (each (name_judged (λ k. u32_at names.now (4 * k))) n) tt }
 {
-    let mut read = [0u32; 96];
+    let mut seen = [0u32; 96];
     for i in 0..n {
-        read[i] = wire::u32_at(names, 4 * i);
+        let name = wire::u32_at(names, 4 * i);
+        if !may_stand(&seen, i, name) {
+            return wire::refused(9, i);
+        }
+        seen[i] = name;
     }
-    part_table::judge_names(&read[..n])
+    Ok(())
 }
 
 // The first multiple of 4 that is not less.

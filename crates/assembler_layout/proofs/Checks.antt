@@ -2,18 +2,18 @@
 -- Assumes nothing.
 use Prim.Native.Nat.{ℕ, zero, suc, ◌+◌, ◌≤◌, ◌<◌}
 use mathlib.Core.Path.{◌≡◌, sym, ◌∙◌}
-use mathlib.Core.Bool.{true, false}
+use mathlib.Core.Bool.{Bool, true, false}
 use mathlib.Core.List.{List}
 use native.Mathlib.Numerals.{add-one}
 use native.Mathlib.Omega.{arith}
 use lib.Dec.{eqb}
-use lib.ListN.{length, get_or, take}
+use lib.ListN.{length, get_or, take, set}
 use lib.Seq.{take-length}
 use borrow.Author.Tests.{eq-eqb, ne_eqb, le-leb, lt-leb}
 use Rattle.wire.specs.Verdict.{◌then◌, check, each, Verdict, Accepted, Refused}
-use Rattle.wire.proofs.Verdicts.{each_cong}
-use Rattle.part_table_layout.specs.Table.{name_judged, filled}
-use Rattle.part_table_layout.proofs.Filled.{taken_length, taken_below}
+use Rattle.wire.proofs.Verdicts.{checked, check_fails, each_stop, each_next}
+use Rattle.part_table_layout.specs.Table.{may_stand, name_judged, filled}
+use Rattle.part_table_layout.proofs.Filled.{filled_more, filled_below}
 use Rattle.part_table_layout.proofs.Judged.{stand_agree}
 use Rattle.assembler_layout.specs.Assembled.{Parts, total, part_count, name_given, end_before, file_length, parts_right, assembly_judged}
 use Rattle.assembler_layout.proofs.Lengths.{total_more, total_front}
@@ -38,18 +38,22 @@ module _ (l : List ℕ) (i left sum : ℕ) (h : left + total (take i l) ≡ sum)
       go zero e = sym (eq-eqb (total l) sum (omega arith))
       go (suc n) e = ne_eqb (suc n) 0 (λ q. omega arith) ∙ sym (ne_eqb (total l) sum (λ q. omega arith))
 
--- ---- the n names, read into a table of 96
-name_agree : (f g : ℕ → ℕ) (k : ℕ) → ((j : ℕ) → j ≤ k → f j ≡ g j) → name_judged f k ≡ name_judged g k
-unfolding name_judged
-name_agree f g k h =
-    let e = stand_agree f g (g k) k (λ j l. h j (omega arith)) in
-    let q = h k (omega arith) in
-    rw (q, e)
+-- ---- name i, x, was judged by those before it, with the answer t
+module _ (f : ℕ → ℕ) {i n x : ℕ} {l : List ℕ} {t : Bool}
+    (few : n ≤ 96) (less : i < n) (e : x ≡ f i) (seen : l ≡ filled f i) (h : t ≡ may_stand (λ k. get_or l k 0) x i) (a : each (name_judged f) i ≡ Accepted) where
+  stands : t ≡ may_stand f (f i) i
+  stands = h ∙ rw (seen, e) (stand_agree (λ k. get_or (filled f i) k 0) f (f i) i (λ j m. filled_below f i j (omega arith) m))
 
-pub names_judged : (f : ℕ → ℕ) {n : ℕ} {l : List ℕ} → n ≤ 96 → l ≡ filled f n
-    → each (name_judged (λ k. get_or (take n l) k 0)) (length (take n l)) ≡ each (name_judged f) n
-names_judged f {n} l e =
-    rw (e, taken_length f n l) (each_cong _ _ n (λ k h. name_agree _ _ k (λ j g. taken_below f n j l (omega arith))))
+  pub name_stood : t ≡ false → Refused 9 i ≡ each (name_judged f) n
+  unfolding name_judged
+  name_stood q = sym (each_stop _ i n 9 i less a (check_fails _ _ _ (sym stands ∙ q)))
+
+  pub name_fresh : t ≡ true → each (name_judged f) (i + 1) ≡ Accepted
+  unfolding name_judged
+  name_fresh q = rw add-one (each_next _ i a (checked _ _ _ (sym stands ∙ q)))
+
+  pub name_seen : set l i x ≡ filled f (i + 1)
+  name_seen = rw seen (filled_more f i e)
 
 -- ---- the verdict: 27, 6, 9, 2, 28
 module _ (g : Parts) (room : ℕ) where
