@@ -280,7 +280,8 @@ fn element_place(b: &[u8], p: &SectionPlaces, i: usize) -> Result<usize, Refusal
     Ok(at)
 }
 
-// Element record i, numbered over all lists.
+// Element record i, numbered over all lists. Compiled into its caller: a record that is handed on in memory is read in other cuts than it is stored in.
+#[inline(always)]
 pub fn element(b: &[u8], p: SectionPlaces, i: usize) -> Result<ElementRecord, Refusal>
     ensures { result ≡ element_by p b.now i }
 {

@@ -451,6 +451,8 @@ impl From<Option<u32>> for CField {
 impl From<Result<RuntimeInfo, Refusal>> for CInfo {
     ghost from_gives = { λ a c. c ≡ c_info a };
 
+    // Compiled into the calls, which name it in place of `into`, as that of an element is.
+    #[inline(always)]
     fn from(a: Result<RuntimeInfo, Refusal>) -> CInfo {
         match a {
             Ok(x) => CInfo {
@@ -508,6 +510,9 @@ impl From<Result<ResourceRecord, Refusal>> for CResource {
 impl From<Result<ElementRecord, Refusal>> for CElement {
     ghost from_gives = { λ a c. c ≡ c_element a };
 
+    // Compiled into the calls, which name it in place of `into`: that is a function of its own, and a record that is handed on in memory is read in
+    // other cuts than it is stored in, which took as long again.
+    #[inline(always)]
     fn from(a: Result<ElementRecord, Refusal>) -> CElement {
         match a {
             Ok(x) => CElement {
@@ -1257,10 +1262,13 @@ pub fn qollqamir_part_occurrence(
 pub fn qollqamir_runtime_info(b: &[u8], edition: usize) -> CInfo
     ensures { result ≡ c_info (info_answer_of (container_judged edition b.now) (container_answered edition b.now)) }
 {
-    match container::open_places(b, edition) {
-        Ok(o) => qollqamir_places_runtime_info(b, o.places),
-        Err(r) => Err(r).into(),
-    }
+    // A refusal leaves at once, and the answer has a name of its own, here and of PSV0 data alone: so the refusal is written in place and not copied.
+    let o = match container::open_places(b, edition) {
+        Ok(o) => o,
+        Err(r) => return CInfo::from(Err(r)),
+    };
+    let shown = qollqamir_places_runtime_info(b, o.places);
+    shown
 }
 
 // Resource record i.
@@ -1274,7 +1282,7 @@ pub fn qollqamir_resource(b: &[u8], edition: usize, i: usize) -> CResource
 pub fn qollqamir_element(b: &[u8], edition: usize, i: usize) -> CElement
     ensures { result ≡ c_element (element_answer_of (container_judged edition b.now) (container_answered edition b.now) i) }
 {
-    container::element(b, edition, i).into()
+    CElement::from(container::element(b, edition, i))
 }
 
 // The lists' lengths.
@@ -1340,7 +1348,7 @@ pub fn qollqamir_psv0_open_places(d: &[u8], edition: usize) -> COpened
 pub fn qollqamir_places_runtime_info(b: &[u8], p: SectionPlaces) -> CInfo
     ensures { result ≡ c_info (info_by p b.now) }
 {
-    places::runtime_info(b, p).into()
+    CInfo::from(places::runtime_info(b, p))
 }
 
 // Resource record i, by places.
@@ -1354,7 +1362,7 @@ pub fn qollqamir_places_resource(b: &[u8], p: SectionPlaces, i: usize) -> CResou
 pub fn qollqamir_places_element(b: &[u8], p: SectionPlaces, i: usize) -> CElement
     ensures { result ≡ c_element (element_by p b.now i) }
 {
-    places::element(b, p, i).into()
+    CElement::from(places::element(b, p, i))
 }
 
 // The lists' lengths, by places.
@@ -1395,10 +1403,12 @@ pub fn qollqamir_psv0_open(d: &[u8], edition: usize) -> COpening
 pub fn qollqamir_psv0_runtime_info(d: &[u8], edition: usize) -> CInfo
     ensures { result ≡ c_info (info_answer_of (opened edition d.now) (answered edition d.now)) }
 {
-    match psv0::open_places(d, edition) {
-        Ok(o) => qollqamir_places_runtime_info(d, o.places),
-        Err(r) => Err(r).into(),
-    }
+    let o = match psv0::open_places(d, edition) {
+        Ok(o) => o,
+        Err(r) => return CInfo::from(Err(r)),
+    };
+    let shown = qollqamir_places_runtime_info(d, o.places);
+    shown
 }
 
 // Resource record i, of PSV0 data alone.
@@ -1412,7 +1422,7 @@ pub fn qollqamir_psv0_resource(d: &[u8], edition: usize, i: usize) -> CResource
 pub fn qollqamir_psv0_element(d: &[u8], edition: usize, i: usize) -> CElement
     ensures { result ≡ c_element (element_answer_of (opened edition d.now) (answered edition d.now) i) }
 {
-    psv0::element(d, edition, i).into()
+    CElement::from(psv0::element(d, edition, i))
 }
 
 // The lists' lengths, of PSV0 data alone.

@@ -148,7 +148,9 @@ fn judge_query(d: &[u8], i: usize) -> Result<(), Refusal>
     judge_there(d, i)
 }
 
-// Item i by itself, whatever the others are: 46, 47, 26, then 48 to 51 of its own.
+// Item i by itself, whatever the others are: 46, 47, 26, then 48 to 51 of its own. In its callers: as a function of its own it puts its answer
+// together in other cuts than it reads it.
+#[inline(always)]
 fn judge_alone(d: &[u8], i: usize) -> Result<(), Refusal>
     ensures { result ≡ under (item_alone d.now i) tt }
 {

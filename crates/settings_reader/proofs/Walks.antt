@@ -61,10 +61,10 @@ missed n j r [] h = refl
 missed zero j r (x ∷ l) h = absurd (omega arith)
 missed (suc n) j r (x ∷ l) h = further_on j n r x l ∙ missed n (suc j) r l (omega arith)
 
-row_picked : (i : ℕ) (l : List Row) → i < length l → row_from i 0 None l ≡ Some (get_or l i no_row)
+pub row_picked : (i : ℕ) (l : List Row) → i < length l → row_from i 0 None l ≡ Some (get_or l i no_row)
 row_picked i l h = ap (λ (n : ℕ). row_from n 0 None l) (sym (zero-add i)) ∙ picked i 0 None l no_row h
 
-row_missed : (i : ℕ) (l : List Row) → length l ≤ i → row_from i 0 None l ≡ None
+pub row_missed : (i : ℕ) (l : List Row) → length l ≤ i → row_from i 0 None l ≡ None
 row_missed i l h = ap (λ (n : ℕ). row_from n 0 None l) (sym (zero-add i)) ∙ missed i 0 None l h
 
 -- ---- the loop has passed some rows and come to the place at, after a row of version last

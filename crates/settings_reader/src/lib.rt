@@ -127,21 +127,14 @@ pub fn row_alone(d: &[u8], at: usize, last: u32) -> Result<RowAlone, Refusal>
 }
 
 // What a row leaves of a setting: its own value where it has the key and a version of at most the given one.
-fn taken(setting: Option<u32>, row: Row, key: u32, version: u32) -> Option<u32>
-    ensures { result ≡ choose (tells key version row) (Some row.value) setting }
+fn taken(setting: Option<u32>, row: &Row, key: u32, version: u32) -> Option<u32>
+    ensures { result ≡ choose (tells key version row.now) (Some row.now.value) setting }
 {
     if row.key == key && row.version <= version {
         Some(row.value)
     } else {
         setting
     }
-}
-
-// What row j leaves of the row that is asked for, row i.
-fn wanted(before: Option<Row>, row: Row, j: usize, i: usize) -> Option<Row>
-    ensures { result ≡ choose (eqb j i) (Some row) before }
-{
-    if j == i { Some(row) } else { before }
 }
 
 // The answer to every question at once.
@@ -163,8 +156,11 @@ fn walk(d: &[u8], settings: Settings, key: u32, version: u32, i: usize) -> Resul
     let mut row = None;
     for j in 0..settings.rows {
         let alone = row_alone(d, at, last)?;
-        setting = taken(setting, alone.row, key, version);
-        row = wanted(row, alone.row, j, i);
+        setting = taken(setting, &alone.row, key, version);
+        // Picked here: as an argument and an answer the row was copied in other cuts than it was stored, and each copy waited for its store.
+        if j == i {
+            row = Some(alone.row);
+        }
         last = alone.row.version;
         at = alone.end;
     }

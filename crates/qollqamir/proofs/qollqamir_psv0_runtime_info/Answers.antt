@@ -6,11 +6,11 @@ use Rattle.places_layout.specs.Placed.{opened_places}
 use Rattle.qollqamir.specs.Boundary.{c_info}
 use Rattle.qollqamir.proofs.qollqamir_psv0_runtime_info.Goals as goal
 
-pub returns-in-Ok : goal.returns-in-Ok
-returns-in-Ok c =
-    c.qollqamir_places_runtime_info.ensures ∙ ap c_info (info_accepted _ _ c.open_places.ensures c.in-Ok.is)
+pub returns : goal.returns
+returns c =
+    c.qollqamir_places_runtime_info-shown.ensures ∙ ap c_info (info_accepted _ _ c.open_places.ensures c.in-Ok.is)
 
 pub returns-in-Err : goal.returns-in-Err
 unfolding info_answer_of opened_places
 returns-in-Err c =
-    c.into.ensures ∙ ap c_info (refuses _ _ refl (sym (refused_by _ _ c.open_places.ensures c.in-Err.is)))
+    c.from.ensures ∙ ap c_info (refuses _ _ refl (sym (refused_by _ _ c.open_places.ensures c.in-Err.is)))
