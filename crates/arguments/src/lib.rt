@@ -10,7 +10,9 @@ use std::os::fd::AsRawFd;
 use words::WordError;
 
 // Argument i, put at the start of the buffer: no bytes where it is missing or longer than the buffer.
-fn argument<'a>(rt: &HostRuntime, i: usize, buf: &'a mut [u8]) -> &'a [u8] {
+fn argument<'a>(rt: &HostRuntime, i: usize, buf: &'a mut [u8]) -> &'a [u8]
+    ensures { length result.now ≤ length buf.old }
+{
     let len = rt.arg(i, buf).unwrap_or(0);
     &buf[..len]
 }

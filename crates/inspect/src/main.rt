@@ -5,5 +5,6 @@ fn main() {
     // One byte more than is read of a container tells a longer input.
     let mut buffer = [0; 65537];
     let n = io::read_full(0, &mut buffer);
-    printing::text(inspect_text::text(&buffer[..n]).as_slice());
+    let text = inspect_text::text(&buffer[..n]);
+    printing::text(&text.bytes[..text.len]);
 }

@@ -1,7 +1,8 @@
 -- What the small program prints: "reads a container of at most 65,536 bytes from standard input and prints its table or its refusal".
-use Rattle.std.specs.Prelude.{List, [], ◌∷◌, ◌++◌, ℕ, zero, suc, leb, length}
+use Rattle.std.specs.Prelude.{List, [], ◌∷◌, ◌++◌, ℕ, zero, suc, leb, length, drop, replicate}
 use Rattle.constants.specs.Edition.{file_edition_of}
 use Rattle.container_layout.specs.Container.{psv_of, container_judged}
+use Rattle.inspect_text.specs.declared.Output.{Output}
 use Rattle.lines.specs.Line.{accepted_line, refused_line, part_line}
 use Rattle.part_table_layout.specs.Table.{count_of, name_at, offset_at, size_at}
 use Rattle.wire.specs.Choice.{choose}
@@ -29,3 +30,7 @@ too_long = 116 ∷ 111 ∷ 111 ∷ 32 ∷ 108 ∷ 111 ∷ 110 ∷ 103 ∷ 10 ∷
 -- "the small program must name edition 1" (document 02, Ask 5): whatever an opening that names none reads, this is what it prints
 unfoldable pub inspected : List ℕ → List ℕ
 inspected b = choose (leb (length b) 65536) (printed_at 1 b) too_long
+
+-- a text of at most 6,208 bytes as the program has it: its bytes, zeros after them, and its length
+unfoldable pub output_of : List ℕ → Output
+output_of s = record { bytes = s ++ drop (length s) (replicate 6208 0); len = length s }

@@ -1,8 +1,9 @@
 -- The lines that the programs print, as document 01 has them in "Boxes to try".
-use Rattle.std.specs.Prelude.{◌&&◌, List, [], ◌∷◌, ◌++◌, ℕ, ◌/◌, ◌%◌, leb}
+use Rattle.std.specs.Prelude.{◌&&◌, List, [], ◌∷◌, ◌++◌, ℕ, ◌/◌, ◌%◌, leb, length, drop, replicate}
 use Rattle.constants.specs.Name.{is_known}
 use Rattle.wire.specs.Choice.{choose}
 use Rattle.lines.specs.Number.{decimal}
+use Rattle.lines.specs.declared.Line.{Line}
 
 -- `accepted `, `refused `, ` known` and ` unknown` with a line feed
 abbrev pub accepted : List ℕ
@@ -50,3 +51,7 @@ mark x = choose (is_known x) known unknown
 -- "`DXIL 40 4 known` .. (header offset, size)"
 unfoldable pub part_line : ℕ → ℕ → ℕ → List ℕ
 part_line x offset size = (name_text x ++ (space ++ numbers offset size)) ++ mark x
+
+-- a line of at most 64 bytes as the programs have it: its bytes, zeros after them, and its length
+unfoldable pub line_of : List ℕ → Line
+line_of s = record { bytes = s ++ drop (length s) (replicate 64 0); len = length s }

@@ -36,12 +36,14 @@ pub fn value(f: Option<u32>) {
 
 // A part, for more to follow on its line: its name, where its header starts, its data size, and whether the name is known.
 pub fn part(x: u32, offset: u32, size: u32) {
-    if let [shown @ .., _] = lines::part(x, offset, size).as_slice() {
+    let line = lines::part(x, offset, size);
+    if let [shown @ .., _] = &line.bytes[..line.len] {
         text(shown);
     }
 }
 
 // A refusal's line: its number and place.
 pub fn refusal(r: Refusal) {
-    text(lines::refused(r).as_slice());
+    let line = lines::refused(r);
+    text(&line.bytes[..line.len]);
 }
