@@ -107,7 +107,7 @@ module _ (k : ℕ) (b : List ℕ) (x : ℕ) {w : Result PsvPart Refusal} (hw : w
     start_is : p.start ≡ start_found b (find b psv0)
     start_is = ap (λ (q : PsvPart). q.start) found
 
-    count_is : p.parts ≡ count_of b
+    pub count_is : p.parts ≡ count_of b
     count_is = ap (λ (q : PsvPart). q.parts) found
 
     asked_is : p.asked ≡ part_at b (find_occurrence b x 0)
@@ -183,7 +183,7 @@ module _ (k : ℕ) (b : List ℕ) (x : ℕ) {w : Result PsvPart Refusal} (hw : w
         pub start_short : {s : Span} → o ≡ Ok s → p.start + s.start ≤ 16777216
         start_short g = let i = within in omega (arith, (h.shown g).inside, data_length, i.0, i.1, all_short)
 
-        moved_shows : {s m : Span} → o ≡ Ok s → m ≡ record { start = p.start + s.start; points = s.points; len = s.len } → SpanShows b v l c (Ok m)
+        pub moved_shows : {s m : Span} → o ≡ Ok s → m ≡ record { start = p.start + s.start; points = s.points; len = s.len } → SpanShows b v l c (Ok m)
         unfolding verdict_of
         moved_shows {s} g q =
             let i = within in

@@ -84,15 +84,12 @@ module _ (d : List ℕ) (n next : ℕ) where
       go false = tt
 
 -- a field: the number of its four bytes
+pub field_is : (d : List ℕ) (n m next : ℕ) (r : Option (ℕ × Cursor)) → r ≡ step_to d n next → n ≡ m → n < 4294967296 → (r ≡ step_to d m next) × SmallStep r
+field_is d n m next r e q h = (e ∙ rw q, rw e (step_small d n next h))
+
 module _ (d : List ℕ) (at n : ℕ) (q : n ≡ u32_at d at) (h : n < 4294967296) where
-  small : SmallStep (step_to d (u32_at d at) (at + 4))
-  small = step_small d _ _ (rw (← q) h)
-
-  field_is : {r : Option (ℕ × Cursor)} → r ≡ step_to d (u32_at d at) (at + 4) → (r ≡ step_to d (u32_at d at) (at + 4)) × SmallStep r
-  field_is e = (e, rw e small)
-
   pub field_past : {c : Cursor} → reach d (at + 4) ≡ Some c → (Some (n, c) ≡ step_to d (u32_at d at) (at + 4)) × SmallStep (Some (n, c))
-  field_past e = field_is (rw q (step_past d _ _ e))
+  field_past e = field_is d n _ _ _ (step_past d n _ e) q h
 
 pub field_short : (d : List ℕ) (at : ℕ) (r : Option (ℕ × Cursor)) → r ≡ None → reach d (at + 4) ≡ None → (r ≡ step_to d (u32_at d at) (at + 4)) × SmallStep r
 field_short d at r e f = (e ∙ step_short d _ _ f, rw e tt)
